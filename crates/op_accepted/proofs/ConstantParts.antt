@@ -1,6 +1,7 @@
 -- What constants are made of is fit: numbers, texts, and what operators, functions and sets make of them.
 use Rattle.std.proofs.Common.{◌≡◌, ◌<◌, ℕ, ℤ, pos, negsuc, ◌-ℤ◌, ◌+ℤ◌, zero, suc, Bool, true, false, not, ◌&&◌, ◌||◌, List, [], ◌∷◌, ◌++◌, length, nat_eq, nat_le, Option, Some, None, refl, sym, ap, subst, ◌∙◌, arith, if◌then◌else◌}
 use Rattle.std.proofs.lemmas.Bool.{false≢true}
+use Rattle.std.proofs.lemmas.Option.{none-some}
 use Rattle.std.specs.Int.{w32, cast_unsigned, int_bit_not}
 use Rattle.std.specs.Prelude.{int_div, int_lt, int_rem, neg_ℤ, ◌*ℤ◌, unsigned_abs, ◌%◌}
 use Rattle.std.specs.Option.{option_and_then, option_map}
@@ -40,7 +41,7 @@ use Rattle.op_accepted.proofs.Parts.{fits_after, fits_entry, fits_fine, fits_tes
 use Rattle.op_accepted.proofs.SetTypes.{IsSetType, common_is_set, common_solid, empty_is_set, is_solid_sort, over_is_set, set_solid, sort_solid}
 use Rattle.op_accepted.proofs.Solid.{boolean_solid, char_solid, integer_solid, ordinal_solid, string_is}
 use Rattle.op_accepted.proofs.Trees.{IsNoText, in_range_no_text, no_text_fits, within_no_text}
-use Rattle.op_core.proofs.Agreeing.{none_is, some_is}
+use Rattle.op_core.proofs.Agreeing.{some_is}
 use Rattle.op_judgement.specs.declared.rules.LanguageRule.{LanguageRule}
 use Rattle.op_judgement.specs.declared.rules.LanguageRule.TheVariants.{NoCast, NoOperator, NotAssignable, NotOrdinal, NumberTooLarge, OutOfRange}
 use Rattle.op_types.specs.ConstantParts.{is_ordinal, joined, made, no_members, nodes, rule_of, text_constant}
@@ -73,7 +74,7 @@ text_fits t (b ∷ c ∷ text) = (nodes_count (const.Text []) table.string 1 (om
 
 arithmetic_solid : {core : Core} → IsFitTables core → (a b : Sort) (of : TypeId) → table.arithmetic a b ≡ Some of → IsSolidType core of
 arithmetic_solid {core} t (sort.Ordinal kind.Integer) (sort.Ordinal kind.Integer) of e = subst (IsSolidType core) (some_is e) (integer_solid t)
-arithmetic_solid t a b of e = absurd (none_is e)
+arithmetic_solid t a b of e = absurd (none-some _ e)
 
 logic_solid : {core : Core} → IsFitTables core → (a b : Sort) (of : TypeId) → table.logic a b ≡ Some of → IsSolidType core of
 logic_solid {core} t (sort.Ordinal kind.Boolean) (sort.Ordinal kind.Boolean) of e = subst (IsSolidType core) (some_is e) (boolean_solid t)
@@ -108,12 +109,12 @@ set_arithmetic_solid {core} t a b sets of s e = go (are_sets a b) s e
 
 compared_solid : {core : Core} → IsFitTables core → (b : Bool) (of : TypeId) → table.compared b ≡ Some of → IsSolidType core of
 compared_solid {core} t true of e = subst (IsSolidType core) (some_is e) (boolean_solid t)
-compared_solid t false of e = absurd (none_is e)
+compared_solid t false of e = absurd (none-some _ e)
 
 member_solid : {core : Core} → IsFitTables core → (a b : Sort) (of : TypeId) → table.member_of a b ≡ Some of → IsSolidType core of
 member_solid t (sort.Ordinal a) (sort.Set b) of e = compared_solid t (same_kind a b) of e
 member_solid {core} t (sort.Ordinal a) sort.EmptySet of e = subst (IsSolidType core) (some_is e) (boolean_solid t)
-member_solid t a b of e = absurd (none_is e)
+member_solid t a b of e = absurd (none-some _ e)
 
 -- what an operator gives is solid, but for a text that is joined
 pub operation_solid : {core : Core} → IsFitTables core → (o : Operator) (a b : Sort) (sets of : TypeId) → (joins o ≡ true → (is_text a && is_text b) ≡ false) → (are_sets a b ≡ true → IsSolidType core sets) → table.operation o a b sets ≡ Some of → IsSolidType core of
@@ -138,9 +139,9 @@ operation_solid t GreaterEqual a b sets of j s e = compared_solid t (table.inclu
 operation_solid t Equal a b sets of j s e = compared_solid t (table.equated a b) of e
 operation_solid t NotEqual a b sets of j s e = compared_solid t (table.equated a b) of e
 operation_solid t In_ a b sets of j s e = member_solid t a b of e
-operation_solid t Is a b sets of j s e = absurd (none_is e)
-operation_solid t As_ a b sets of j s e = absurd (none_is e)
-operation_solid t Slash a b sets of j s e = absurd (none_is e)
+operation_solid t Is a b sets of j s e = absurd (none-some _ e)
+operation_solid t As_ a b sets of j s e = absurd (none-some _ e)
+operation_solid t Slash a b sets of j s e = absurd (none-some _ e)
 
 -- to the type that two sets go to
 pub common_sets : {core : Core} → IsFitTables core → (a b : TypeId) → are_sets (sort_of core a) (sort_of core b) ≡ true → IsSolidType core (common_set core a b)
@@ -167,10 +168,10 @@ compared_no_text Less less more v e = truth_no_text less v e
 compared_no_text Greater less more v e = truth_no_text more v e
 compared_no_text LessEqual less more v e = truth_no_text (not more) v e
 compared_no_text GreaterEqual less more v e = truth_no_text (not less) v e
-compared_no_text o less more v e = absurd (none_is e)
+compared_no_text o less more v e = absurd (none-some _ e)
 
 if_zero_no_text : (n : ℤ) (o : Option Const) (v : Const) → ((v : Const) → o ≡ Some v → IsNoText v) → if_zero n None o ≡ Some v → IsNoText v
-if_zero_no_text (pos zero) o v g e = absurd (none_is e)
+if_zero_no_text (pos zero) o v g e = absurd (none-some _ e)
 if_zero_no_text (pos (suc n)) o v g e = g v e
 if_zero_no_text (negsuc n) o v g e = g v e
 
@@ -208,7 +209,7 @@ texts_fit {core} t Add a b sets of x y v k s e g = go (nat_le (length (x ++ y)) 
 
     go : (c : Bool) → (if c then Some (const.Text (x ++ y)) else None) ≡ Some v → IsFitConstant core v of
     go true g = subst (λ v. IsFitConstant core v of) (some_is g) (subst (λ of. type_at core of ≡ Some type.String) string (string_is t))
-    go false g = absurd (none_is g)
+    go false g = absurd (none-some _ g)
 texts_fit {core} t o a b sets of x y v k s e g = no_text_fits core v of (compared_no_text o (precedes_bytes x y) (precedes_bytes y x) v g) (operation_solid t o a b sets of (λ j. absurd (false≢true j)) s e)
 
 operated_fits : {core : Core} → IsFitTables core → (o : Operator) (a b : Sort) (sets of : TypeId) (x y v : Const) → (are_sets a b ≡ true → IsSolidType core sets) → table.operation o a b sets ≡ Some of → operated o a b x y ≡ Some v → IsFitConstant core v of
@@ -229,7 +230,7 @@ cast_fits : (core : Core) (of : TypeId) (n : ℤ) (v : Const) → cast (type_at 
 cast_fits core of n v e = go (type_at core of) refl e
   where
     ranged : (t : Option CoreType) → type_at core of ≡ t → (o : Option (ℤ × ℤ)) → range_of t ≡ o → in_range o n ≡ Some v → IsFitConstant core v of
-    ranged t q None r e = absurd (none_is e)
+    ranged t q None r e = absurd (none-some _ e)
     ranged t q (Some r) i e = no_text_fits core v of (in_range_no_text (Some r) n v e) (ordinal_solid core of r (ap range_of q ∙ i))
 
     go : (t : Option CoreType) → type_at core of ≡ t → cast t n ≡ Some v → IsFitConstant core v of
@@ -246,7 +247,7 @@ applied_no_text core Sqr of a v e = within_no_text (number_of a *ℤ number_of a
 applied_no_text core Odd of a v e = within_no_text (pos (cast_unsigned w32 (number_of a) % 2)) v e
 applied_no_text core UpCase of a v e = within_no_text (if contains (pos 97, pos 122) (number_of a) then number_of a -ℤ pos 32 else number_of a) v e
 applied_no_text core Length of a v e = within_no_text (pos (length (bytes_of a))) v e
-applied_no_text core f of a v e = absurd (none_is e)
+applied_no_text core f of a v e = absurd (none-some _ e)
 
 -- what a function gives of a value that is no text, or the length of a text
 pub application_solid : {core : Core} → IsFitTables core → (f : Function) (of to : TypeId) → table.application f (sort_of core of) of ≡ Some to → IsSolidType core to
@@ -262,7 +263,7 @@ application_solid {core} t f of to e = go f (sort_of core of) refl e
     go Length sort.String q e = subst (IsSolidType core) (some_is e) (integer_solid t)
     go Length (sort.Ordinal kind.Char) q e = subst (IsSolidType core) (some_is e) (integer_solid t)
     go UpCase (sort.Ordinal kind.Char) q e = subst (IsSolidType core) (some_is e) (char_solid t)
-    go f s q e = absurd (none_is e)
+    go f s q e = absurd (none-some _ e)
 
 pub use_fits : {core : Core} → IsFitTables core → (what : Applied) (place at : Place) (a : Constant) → IfTyped (IsFitFolded core) (checked (use_means core what place at a))
 use_fits {core} t (Cast of) place at a =
@@ -277,11 +278,11 @@ bound_fits core f of = fits_entry NotOrdinal of.1 (bound_of core f of.0) (λ b e
     ranged index b e = by (range_of (type_at core index)) refl e
       where
         at : (r : ℤ × ℤ) → range_of (type_at core index) ≡ Some r → (o : Option Const) → within (end_by f r) ≡ o → option_map (λ v. (v, index)) o ≡ Some b → IsFitConstant core b.0 b.1
-        at r q None g e = absurd (none_is e)
+        at r q None g e = absurd (none-some _ e)
         at r q (Some v) g e = subst (λ b. IsFitConstant core b.0 b.1) (some_is e) (no_text_fits core v index (within_no_text (end_by f r) v g) (ordinal_solid core index r q))
 
         by : (o : Option (ℤ × ℤ)) → range_of (type_at core index) ≡ o → option_map (λ v. (v, index)) (option_and_then (λ r. within (end_by f r)) o) ≡ Some b → IsFitConstant core b.0 b.1
-        by None q e = absurd (none_is e)
+        by None q e = absurd (none-some _ e)
         by (Some r) q e = at r q (within (end_by f r)) refl e
 
 -- ---- sets

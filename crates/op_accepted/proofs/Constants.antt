@@ -1,5 +1,6 @@
 -- Where tables and names are fit, each constant of a declaration is fit.
 use Rattle.std.proofs.Common.{◌≡◌, ℕ, pos, neg_ℤ, Bool, true, false, List, Option, Some, None, sym, arith, if◌then◌else◌}
+use Rattle.std.proofs.lemmas.Option.{none-some}
 use Rattle.std.specs.Option.{IfSome}
 use Rattle.op_base.specs.declared.place.Place.{Place}
 use Rattle.op_check_expr.specs.Phrases.{value as value_meant}
@@ -30,7 +31,6 @@ use Rattle.op_accepted.proofs.Parts.{any_typed, fits_after, fits_any, fits_as, f
 use Rattle.op_accepted.proofs.SetTypes.{set_solid}
 use Rattle.op_accepted.proofs.Trees.{no_text_fits}
 use Rattle.op_accepted.specs.State.{AreFitNames}
-use Rattle.op_core.proofs.Agreeing.{none_is}
 
 -- `nil` is a constant, which no declaration takes
 abbrev IsFitOrNil : Core → Const → TypeId → Type 0
@@ -148,7 +148,7 @@ built_fits : (core : Core) (place : Place) (c : Constant) → MayFit core c → 
 built_fits core place c h = fits_unshown (fine c) place (feature_of_constant c.value) (λ e. fits_fine (go c.value h e))
   where
     go : (v : Const) → IsFitOrNil core v c.of → feature_of_constant v ≡ None → IsFitConstant core v c.of
-    go const.Nil h e = absurd (none_is (sym e))
+    go const.Nil h e = absurd (none-some _ (sym e))
     go v h e = h
 
 pub constant_fits : (core : Core) (names : List Named) → IsFitTables core → AreFitNames core names → (e : Expression) → IfTyped (λ c. IsFitConstant core c.value c.of) (checked (constant_part core names e))

@@ -1,6 +1,7 @@
 -- Where tables and names are fit, each expression that has a type is fit.
 use Rattle.std.proofs.Common.{◌≡◌, ℕ, suc, pos, Bool, true, false, ◌&&◌, List, [], ◌∷◌, ◌++◌, slice_get, Option, Some, None, refl, subst, arith, if◌then◌else◌}
 use Rattle.std.proofs.lemmas.Bool.{and_from, and_parts}
+use Rattle.std.proofs.lemmas.Option.{none-some}
 use Rattle.std.specs.Option.{IfSome, option_and_then, option_map}
 use Rattle.std.specs.Prelude.{position}
 use Rattle.op_base.specs.declared.place.Place.{Place}
@@ -49,7 +50,7 @@ use Rattle.op_accepted.proofs.Operations.{operation_fits, prefix_of_fits, used_f
 use Rattle.op_accepted.proofs.Parts.{any_map, fits_any, fits_behind, fits_changed, fits_fine, fits_followed, fits_silent, fits_standing, fits_test, fits_with}
 use Rattle.op_accepted.proofs.Solid.{nothing_solid, string_is}
 use Rattle.op_accepted.proofs.Trees.{as_type_fits, open_step, tree_fits}
-use Rattle.op_core.proofs.Agreeing.{none_is, some_is}
+use Rattle.op_core.proofs.Agreeing.{some_is}
 use Rattle.op_judgement.specs.declared.rules.LanguageRule.TheVariants.{NoSetElement, NoStatement, NotAssignable}
 use Rattle.op_types.specs.ConstantParts.{joined_name, number_behind, text_constant}
 
@@ -66,8 +67,8 @@ parameters_solid {here} s (Some (plan.Routine id)) n p e = go (slice_get here.co
   where
     go : (o : Option Routine) → slice_get (parameters_in here o) n ≡ Some p → IsSolidType here.core p.of
     go (Some r) e = row_is (λ p. IsSolidType here.core p.of) here.core.parameters r.parameters n p s.tables.parameters e
-    go None e = absurd (none_is e)
-parameters_solid s plan n p e = absurd (none_is e)
+    go None e = absurd (none-some _ e)
+parameters_solid s plan n p e = absurd (none-some _ e)
 
 result_solid : {core : Core} → IsFitTables core → (result : Option TypeId) → IfSome result (IsSolidType core) → IsSolidType core (result_type result)
 result_solid t None h = nothing_solid t
@@ -250,20 +251,20 @@ own_fits {here} s id v e = go (is_own here.routine id) e
   where
     at : (r : Routine) (k : ℕ) (n : Option ℕ) (o : Option VariableRow) → slice_get (rows here.core.variables r.variables) k ≡ o → option_and_then (λ n. option_map (λ v. (record { 0 = n }, v.of)) o) n ≡ Some v → IsSolidType here.core v.1
     at r k (Some n) (Some x) q e = subst (λ v. IsSolidType here.core v.1) (some_is e) (row_is (λ v. IsSolidType here.core v.of) here.core.variables r.variables k x s.tables.variables q)
-    at r k (Some n) None q e = absurd (none_is e)
-    at r k None o q e = absurd (none_is e)
+    at r k (Some n) None q e = absurd (none-some _ e)
+    at r k None o q e = absurd (none-some _ e)
 
     by : (r : Routine) (o : Option ℕ) → option_and_then (result_at r.variables (rows here.core.variables r.variables)) o ≡ Some v → IsSolidType here.core v.1
     by r (Some k) e = at r k (number_at r.variables k) (slice_get (rows here.core.variables r.variables) k) refl e
-    by r None e = absurd (none_is e)
+    by r None e = absurd (none-some _ e)
 
     in_row : (o : Option Routine) → result_in here.core o ≡ Some v → IsSolidType here.core v.1
     in_row (Some r) e = by r (position is_result (rows here.core.variables r.variables)) e
-    in_row None e = absurd (none_is e)
+    in_row None e = absurd (none-some _ e)
 
     go : (b : Bool) → (if b then result_in here.core (slice_get here.core.routines id.0) else None) ≡ Some v → IsSolidType here.core v.1
     go true e = in_row (slice_get here.core.routines id.0) e
-    go false e = absurd (none_is e)
+    go false e = absurd (none-some _ e)
 
 target_by_fits : (here : Here) → IsFitHere here → (d : Designator) (id : Option RoutineId) → IfTyped (IsSolidTree here.core) (checked (target_by here d id))
 target_by_fits here s d (Some id) = fits_silent

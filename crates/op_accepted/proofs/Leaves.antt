@@ -1,6 +1,7 @@
 -- Names, places, elements and what is given to parameters are fit.
 use Rattle.std.proofs.Common.{◌≡◌, ◌⊎◌, inl, inr, ℕ, zero, suc, pos, neg_ℤ, Bool, true, false, List, [], ◌∷◌, slice_get, take, drop, IfSome, Option, Some, None, refl, ap, subst, ◌∙◌, arith, if◌then◌else◌}
 use Rattle.std.proofs.lemmas.Bool.{and_from, false≢true}
+use Rattle.std.proofs.lemmas.Option.{none-some}
 use Rattle.std.specs.List.{All}
 use Rattle.std.specs.Option.{IsSome, option_and_then, option_map, option_or}
 use Rattle.std.specs.Prelude.{position}
@@ -47,7 +48,7 @@ use Rattle.op_accepted.proofs.Parts.{fits_changed, fits_entry, fits_fine, fits_s
 use Rattle.op_accepted.proofs.Solid.{char_solid, integer_solid, made_of}
 use Rattle.op_accepted.proofs.Trees.{as_type_fits, open_step, step_fits, tree_fits, tree_open}
 use Rattle.op_accepted.specs.State.{AreFitNames}
-use Rattle.op_core.proofs.Agreeing.{none_is, some_is}
+use Rattle.op_core.proofs.Agreeing.{some_is}
 use Rattle.op_judgement.specs.declared.rules.LanguageRule.TheVariants.{CharacterOfString, NoMember, NoVariable, NotAssignable, NotIndexed, NotWritable, VariableOfAnotherType}
 
 pub number_fits : {core : Core} → IsFitTables core → (n : Option (ℕ × Place)) (j : Judgement Value) → IfTyped (IsFitValue core) (checked j) → IfTyped (IsFitValue core) (checked (or_number n j))
@@ -96,7 +97,7 @@ index_solid {core} t from of e = go (type_at core from) refl e
     go (Some (type.DynamicArray element)) q e = absurd (made_of t from (type.DynamicArray element) q)
     go (Some (type.OpenArray element)) q e = absurd (made_of t from (type.OpenArray element) q)
     go (Some type.String) q e = both table.integer table.char (integer_solid t) (char_solid t) e
-    go o q e = absurd (none_is e)
+    go o q e = absurd (none-some _ e)
 
 indexed_step : (core : Core) (text : Bool) (i : Tree) (of : TypeId) → IsFitTree core i → IsSolidType core of → is_plain_step any_text core text (index i) of ≡ true
 indexed_step core true i of h s = and_from (is_solid (type_at core of)) (is_plain_expression any_text core i) s h
@@ -117,13 +118,13 @@ indexed_fits {core} t bracket at h k = fits_with h (λ a h. fits_entry NotIndexe
 -- ---- names
 
 meaning_fits : (core : Core) (names : List Named) → AreFitNames core names → (key : List ℕ) (m : Meaning) → meaning_of names key ≡ Some m → IsFitMeaning core m
-meaning_fits core [] all key m h = absurd (none_is h)
+meaning_fits core [] all key m h = absurd (none-some _ h)
 meaning_fits core (n ∷ ns) all key m h = go (meaning_fits core ns (λ k d l. all (suc k) d (omega (arith, l))) key m) (meaning_of ns key) refl (bytes_eq n.name key) h
   where
     go : (meaning_of ns key ≡ Some m → IsFitMeaning core m) → (o : Option Meaning) → meaning_of ns key ≡ o → (b : Bool) → option_or o (if b then Some n.meaning else None) ≡ Some m → IsFitMeaning core m
     go others (Some a) e b g = others (e ∙ g)
     go others None e true g = subst (IsFitMeaning core) (some_is g) (all 0 n (omega arith))
-    go others None e false g = absurd (none_is g)
+    go others None e false g = absurd (none-some _ g)
 
 pub meant_if : (core : Core) (names : List Named) → AreFitNames core names → (key : List ℕ) → IfSome (meaning_of names key) (IsFitMeaning core)
 meant_if core names all key = go (meaning_of names key) refl
@@ -167,7 +168,7 @@ name_fits {here} s key name p = named_fits s.tables name p (meaning_of here.visi
 -- ---- members
 
 taken_is : {A : Type 0} (k n : ℕ) (xs : List A) (a : A) → slice_get (take k xs) n ≡ Some a → slice_get xs n ≡ Some a
-taken_is zero n xs a e = absurd (none_is e)
+taken_is zero n xs a e = absurd (none-some _ e)
 taken_is (suc k) n [] a e = e
 taken_is (suc k) zero (x ∷ xs) a e = e
 taken_is (suc k) (suc n) (x ∷ xs) a e = taken_is k n xs a e
@@ -175,7 +176,7 @@ taken_is (suc k) (suc n) (x ∷ xs) a e = taken_is k n xs a e
 -- what holds of all holds of one that stands behind some
 behind_all : {A : Type 0} (P : A → Type 0) (k n : ℕ) (xs : List A) (a : A) → All P xs → slice_get (drop k xs) n ≡ Some a → P a
 behind_all P zero n xs a h e = all_at P xs n a h e
-behind_all P (suc k) n [] a h e = absurd (none_is e)
+behind_all P (suc k) n [] a h e = absurd (none-some _ e)
 behind_all P (suc k) n (x ∷ xs) a h e = behind_all P k n xs a (λ k d l. h (suc k) d (omega (arith, l))) e
 
 -- what holds of all rows of a table holds of those that lie together
@@ -187,16 +188,16 @@ field_solid {core} t name from f e = go (type_at core from) refl e
   where
     at : (run : Run) (k : ℕ) (n : Option ℕ) (o : Option Field) → slice_get (rows core.fields run) k ≡ o → option_and_then (λ n. option_map (λ f. (record { 0 = n }, f.of)) o) n ≡ Some f → IsSolidType core f.1
     at run k (Some n) (Some x) q e = subst (λ f. IsSolidType core f.1) (some_is e) (row_is (λ f. IsSolidType core f.of) core.fields run k x t.fields q)
-    at run k (Some n) None q e = absurd (none_is e)
-    at run k None o q e = absurd (none_is e)
+    at run k (Some n) None q e = absurd (none-some _ e)
+    at run k None o q e = absurd (none-some _ e)
 
     by : (run : Run) (o : Option ℕ) → option_and_then (field_at (rows core.fields run) run) o ≡ Some f → IsSolidType core f.1
     by run (Some k) e = at run k (number_at run k) (slice_get (rows core.fields run) k) refl e
-    by run None e = absurd (none_is e)
+    by run None e = absurd (none-some _ e)
 
     go : (o : Option CoreType) → type_at core from ≡ o → field_named core name o ≡ Some f → IsSolidType core f.1 × IsSolidType core from
     go (Some (type.Record run)) q e = (by run (position (is_named name) (rows core.fields run)) e, ap is_solid q)
-    go o q e = absurd (none_is e)
+    go o q e = absurd (none-some _ e)
 
 pub field_fits : {core : Core} → IsFitTables core → (m : Name) (v : Value) → IsFitValue core v → IfTyped (IsFitDenoted core) (checked (field_of core m v))
 field_fits {core} t m v h =

@@ -1,6 +1,7 @@
 -- What operators, casts and functions make of fit values is fit.
 use Rattle.std.proofs.Common.{◌≡◌, ◌<◌, ◌⊎◌, inl, inr, ℕ, Bool, true, false, ◌&&◌, ◌||◌, Option, Some, None, refl, sym, ap, subst, ◌∙◌, if◌then◌else◌}
 use Rattle.std.proofs.lemmas.Bool.{and_from, false≢true, or_left, or_right}
+use Rattle.std.proofs.lemmas.Option.{none-some}
 use Rattle.op_base.specs.declared.place.Place.{Place}
 use Rattle.op_check_expr.specs.Operating.{bound_type, cast_by, cast_of, computed_operation, computed_use, feature_of_argument, feature_of_operands, function_tree, function_type, index_type, is_evaluated, is_string, joins, left_type, length_type, makes_strings, operand_by, operated, operation_of, operation_tree, prefix_of, right_type, rule_of, set_beside, text_type, type_if, type_of_kind, used}
 use Rattle.op_check_expr.specs.Values.{Value, constant, computed, as_type, constant_tree, retyped, retyped_by, tree_of, type_of}
@@ -42,7 +43,7 @@ use Rattle.op_accepted.proofs.Parts.{fits_changed, fits_entry, fits_fine, fits_u
 use Rattle.op_accepted.proofs.SetTypes.{common_solid, over_is_set, set_solid, sort_solid}
 use Rattle.op_accepted.proofs.Solid.{boolean_solid, char_solid, integer_solid, made_of}
 use Rattle.op_accepted.proofs.Trees.{as_type_open, no_string, open_step, step_fits, tree_fits, tree_open, value_is}
-use Rattle.op_core.proofs.Agreeing.{none_is, some_is}
+use Rattle.op_core.proofs.Agreeing.{some_is}
 use Rattle.op_judgement.specs.declared.rules.Feature.{Feature}
 use Rattle.op_judgement.specs.declared.rules.Feature.TheVariants.{Strings}
 use Rattle.op_judgement.specs.declared.rules.LanguageRule.TheVariants.{NoCast, NoOperator}
@@ -63,53 +64,53 @@ prefix_of_fits {core} t o p (computed e) h =
 left_text : (o : Operator) (b : Sort) (sets of : TypeId) → table.operation o sort.String b sets ≡ Some of → is_text b ≡ true
 left_text o sort.String sets of e = refl
 left_text o (sort.Ordinal kind.Char) sets of e = refl
-left_text Add b sets of e = absurd (none_is e)
-left_text Subtract b sets of e = absurd (none_is e)
-left_text Multiply b sets of e = absurd (none_is e)
-left_text Div b sets of e = absurd (none_is e)
-left_text Mod_ b sets of e = absurd (none_is e)
-left_text Shl b sets of e = absurd (none_is e)
-left_text Shr b sets of e = absurd (none_is e)
-left_text And b sets of e = absurd (none_is e)
-left_text Or b sets of e = absurd (none_is e)
-left_text Xor b sets of e = absurd (none_is e)
-left_text Less b sets of e = absurd (none_is e)
-left_text Greater b sets of e = absurd (none_is e)
-left_text LessEqual b sets of e = absurd (none_is e)
-left_text GreaterEqual b sets of e = absurd (none_is e)
-left_text Equal b sets of e = absurd (none_is e)
-left_text NotEqual b sets of e = absurd (none_is e)
-left_text In_ b sets of e = absurd (none_is e)
-left_text Is b sets of e = absurd (none_is e)
-left_text As_ b sets of e = absurd (none_is e)
-left_text Slash b sets of e = absurd (none_is e)
+left_text Add b sets of e = absurd (none-some _ e)
+left_text Subtract b sets of e = absurd (none-some _ e)
+left_text Multiply b sets of e = absurd (none-some _ e)
+left_text Div b sets of e = absurd (none-some _ e)
+left_text Mod_ b sets of e = absurd (none-some _ e)
+left_text Shl b sets of e = absurd (none-some _ e)
+left_text Shr b sets of e = absurd (none-some _ e)
+left_text And b sets of e = absurd (none-some _ e)
+left_text Or b sets of e = absurd (none-some _ e)
+left_text Xor b sets of e = absurd (none-some _ e)
+left_text Less b sets of e = absurd (none-some _ e)
+left_text Greater b sets of e = absurd (none-some _ e)
+left_text LessEqual b sets of e = absurd (none-some _ e)
+left_text GreaterEqual b sets of e = absurd (none-some _ e)
+left_text Equal b sets of e = absurd (none-some _ e)
+left_text NotEqual b sets of e = absurd (none-some _ e)
+left_text In_ b sets of e = absurd (none-some _ e)
+left_text Is b sets of e = absurd (none-some _ e)
+left_text As_ b sets of e = absurd (none-some _ e)
+left_text Slash b sets of e = absurd (none-some _ e)
 
 right_text : (o : Operator) (a : Sort) (sets of : TypeId) → table.operation o a sort.String sets ≡ Some of → is_text a ≡ true
 right_text o sort.String sets of e = refl
 right_text o (sort.Ordinal kind.Char) sets of e = refl
-right_text Add a sets of e = absurd (none_is e)
-right_text Subtract a sets of e = absurd (none_is e)
-right_text Multiply a sets of e = absurd (none_is e)
-right_text Div a sets of e = absurd (none_is e)
-right_text Mod_ a sets of e = absurd (none_is e)
-right_text Shl a sets of e = absurd (none_is e)
-right_text Shr a sets of e = absurd (none_is e)
-right_text And a sets of e = absurd (none_is e)
-right_text Or a sets of e = absurd (none_is e)
-right_text Xor a sets of e = absurd (none_is e)
-right_text Less a sets of e = absurd (none_is e)
-right_text Greater a sets of e = absurd (none_is e)
-right_text LessEqual a sets of e = absurd (none_is e)
-right_text GreaterEqual a sets of e = absurd (none_is e)
-right_text Equal a sets of e = absurd (none_is e)
-right_text NotEqual a sets of e = absurd (none_is e)
-right_text In_ a sets of e = absurd (none_is e)
-right_text Is a sets of e = absurd (none_is e)
-right_text As_ a sets of e = absurd (none_is e)
-right_text Slash a sets of e = absurd (none_is e)
+right_text Add a sets of e = absurd (none-some _ e)
+right_text Subtract a sets of e = absurd (none-some _ e)
+right_text Multiply a sets of e = absurd (none-some _ e)
+right_text Div a sets of e = absurd (none-some _ e)
+right_text Mod_ a sets of e = absurd (none-some _ e)
+right_text Shl a sets of e = absurd (none-some _ e)
+right_text Shr a sets of e = absurd (none-some _ e)
+right_text And a sets of e = absurd (none-some _ e)
+right_text Or a sets of e = absurd (none-some _ e)
+right_text Xor a sets of e = absurd (none-some _ e)
+right_text Less a sets of e = absurd (none-some _ e)
+right_text Greater a sets of e = absurd (none-some _ e)
+right_text LessEqual a sets of e = absurd (none-some _ e)
+right_text GreaterEqual a sets of e = absurd (none-some _ e)
+right_text Equal a sets of e = absurd (none-some _ e)
+right_text NotEqual a sets of e = absurd (none-some _ e)
+right_text In_ a sets of e = absurd (none-some _ e)
+right_text Is a sets of e = absurd (none-some _ e)
+right_text As_ a sets of e = absurd (none-some _ e)
+right_text Slash a sets of e = absurd (none-some _ e)
 
 shown : (b : Bool) (n : Feature) → (if b then Some n else None) ≡ None → b ≡ false
-shown true n e = absurd (none_is (sym e))
+shown true n e = absurd (none-some _ (sym e))
 shown false n e = refl
 
 makes : (o : Operator) (a b : Sort) → is_text a ≡ true → is_text b ≡ true → (joins o || is_string a || is_string b) ≡ true → makes_strings o a b ≡ true
@@ -201,7 +202,7 @@ cast_solid core from to c e = go (sort_of core from) (sort_of core to) refl refl
   where
     go : (s u : Sort) → sort_of core from ≡ s → sort_of core to ≡ u → cast_by core from to s u ≡ Some c → IsSolidType core from × IsSolidType core to
     go (sort.Ordinal a) (sort.Ordinal b) q r e = (sort_solid core from (sort.Ordinal a) q refl, sort_solid core to (sort.Ordinal b) r refl)
-    go s u q r e = absurd (none_is e)
+    go s u q r e = absurd (none-some _ e)
 
 cast_of_fits : (core : Core) (place : Place) (to : TypeId) (v : Value) → IsFitValue core v → IfTyped (IsFitValue core) (checked (cast_of core place to (tree_of v) (type_of v)))
 cast_of_fits core place to v h =
@@ -253,7 +254,7 @@ bounds_solid {core} t of to e = go (type_at core of) refl e
   where
     own : (s : Sort) → sort_of core of ≡ s → type_if (is_ordinal s) of ≡ Some to → IsSolidType core to
     own (sort.Ordinal kind) q e = subst (IsSolidType core) (some_is e) (sort_solid core of (sort.Ordinal kind) q refl)
-    own s q e = absurd (none_is e)
+    own s q e = absurd (none-some _ e)
 
     go : (o : Option CoreType) → type_at core of ≡ o → bound_type (index_type o) (sort_of core of) of ≡ Some to → IsSolidType core to
     go (Some (type.Array index element)) q e = subst (IsSolidType core) (some_is e) (made_of t of (type.Array index element) q).0
@@ -269,7 +270,7 @@ applied_fits {core} t f checked v to of h n u w =
     open_step core (as_type core true to v) (apply f checked) of (as_type_open core true to v h s (u s)) refl w w
 
 takes_no_string : (core : Core) (f : Function) (of to : TypeId) → table.application f (sort_of core of) of ≡ Some to → table.application f sort.String of ≡ None → sort_of core of ≡ sort.String → ⊥
-takes_no_string core f of to e n q = none_is (sym n ∙ subst (λ s. table.application f s of ≡ Some to) q e)
+takes_no_string core f of to e n q = none-some _ (sym n ∙ subst (λ s. table.application f s of ≡ Some to) q e)
 
 function_fits : {core : Core} → IsFitTables core → (f : Function) (checked : Bool) (v : Value) (of : TypeId) → IsFitValue core v → function_type core f (type_of v) ≡ Some of → feature_of_argument core f (type_of v) ≡ None → IsFitValue core (function_tree core f checked v of)
 function_fits {core} t Length checked v of h e g =
@@ -283,7 +284,7 @@ function_fits {core} t Abs checked v of h e g = applied_fits t Abs checked v tab
 function_fits {core} t Sqr checked v of h e g = applied_fits t Sqr checked v table.integer of h (takes_no_string core Sqr (type_of v) of e refl) (λ s. integer_solid t) (application_solid t Sqr (type_of v) of e)
 function_fits {core} t Odd checked v of h e g = applied_fits t Odd checked v table.integer of h (takes_no_string core Odd (type_of v) of e refl) (λ s. integer_solid t) (application_solid t Odd (type_of v) of e)
 function_fits {core} t UpCase checked v of h e g = applied_fits t UpCase checked v table.char of h (takes_no_string core UpCase (type_of v) of e refl) (λ s. char_solid t) (application_solid t UpCase (type_of v) of e)
-function_fits t f checked v of h e g = absurd (none_is e)
+function_fits t f checked v of h e g = absurd (none-some _ e)
 
 -- ---- what is used
 

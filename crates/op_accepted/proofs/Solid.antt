@@ -1,5 +1,6 @@
 -- Predefined types, and types by what is known of them.
-use Rattle.std.proofs.Common.{◌≡◌, ◌<◌, ℕ, zero, suc, ℤ, true, List, [], ◌∷◌, Option, Some, None, slice_get, take, refl, sym, ap, ◌∙◌, arith}
+use Rattle.std.proofs.Common.{◌≡◌, ◌<◌, ℕ, ℤ, true, Option, Some, None, slice_get, refl, sym, ap, ◌∙◌, arith}
+use Rattle.op_base.proofs.Lists.{slice_get-take}
 use Rattle.op_core.proofs.Growing.{all_at}
 use Rattle.op_core.specs.Sizes.{range_of, type_at}
 use Rattle.op_core.specs.Types.{id, predefined}
@@ -14,15 +15,9 @@ use Rattle.op_accepted.specs.Fit.{IsFitTables, IsFitType}
 
 -- ---- rows
 
-front_at : {A : Type 0} (k n : ℕ) (xs : List A) → n < k → slice_get (take k xs) n ≡ slice_get xs n
-front_at zero n xs less = absurd (omega (arith, less))
-front_at (suc k) n [] less = refl
-front_at (suc k) zero (x ∷ xs) less = refl
-front_at (suc k) (suc n) (x ∷ xs) less = front_at k n xs (omega (arith, less))
-
 -- one of the first 16 types
 pub predefined_at : {core : Core} → IsFitTables core → (n : ℕ) → n < 16 → type_at core (id n) ≡ slice_get predefined n
-predefined_at {core} t n less = sym (front_at 16 n core.types less) ∙ ap (λ ts. slice_get ts n) t.predefined
+predefined_at {core} t n less = sym (slice_get-take 16 n core.types less) ∙ ap (λ ts. slice_get ts n) t.predefined
 
 -- of what a type is made
 pub made_of : {core : Core} → IsFitTables core → (of : TypeId) (t : CoreType) → type_at core of ≡ Some t → IsFitType core t

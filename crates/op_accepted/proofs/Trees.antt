@@ -1,6 +1,7 @@
 -- Trees with a step more, and values as values of another type.
 use Rattle.std.proofs.Common.{◌≡◌, ◌⊎◌, inl, inr, ℕ, ℤ, pos, negsuc, Bool, true, false, not, ◌&&◌, nat_lt, Option, Some, None, refl, sym, ap, subst, ◌∙◌, if◌then◌else◌}
 use Rattle.std.proofs.lemmas.Bool.{and_from, and_parts, and_right, false≢true, lt-ltb, or_cases}
+use Rattle.std.proofs.lemmas.Option.{none-some}
 use Rattle.std.specs.Option.{IsSomeAnd}
 use Rattle.op_check_expr.specs.Values.{Value, constant, computed, are_in, as_type, constant_tree, conversion, retyped, retyped_by, tree_of, type_of, with_conversion}
 use Rattle.op_core.specs.Expression.{Expression as Tree, expression, constant as constant_root, Steps, no_steps, steps, Action, convert, behind, then as with_step}
@@ -28,7 +29,7 @@ use Rattle.op_typing.specs.Simple.{IsSolidType, is_solid, is_text, text_after}
 use Rattle.op_accepted.specs.Fit.{IsFitConstant, IsFitTables, IsFitTree, IsFitValue, any_text, ends_implied, ends_text, ends_written, stays_text}
 use Rattle.op_accepted.proofs.SetTypes.{sort_solid}
 use Rattle.op_typed.proofs.Trees.{type_then}
-use Rattle.op_core.proofs.Agreeing.{none_is, some_is}
+use Rattle.op_core.proofs.Agreeing.{some_is}
 
 -- ---- with a step more
 
@@ -124,7 +125,7 @@ within_no_text n w e = go (contains (negsuc 2147483647, pos 2147483647) n) e
   where
     go : (b : Bool) → (if b then Some (const.Ordinal n) else None) ≡ Some w → IsNoText w
     go true e = subst IsNoText (some_is e) tt
-    go false e = absurd (none_is e)
+    go false e = absurd (none-some _ e)
 
 -- of a solid type or a text
 pub value_is : (core : Core) (v : Value) → IsFitValue core v → IsSolidType core (type_of v) ⊎ (type_at core (type_of v) ≡ Some type.String)
@@ -160,13 +161,13 @@ retyped_no_text core to (sort.Set kind) (const.Set members) w q s e = go (are_in
   where
     go : (b : Bool) → (if b then Some (const.Set members) else None) ≡ Some w → IsNoText w
     go true e = subst IsNoText (some_is e) tt
-    go false e = absurd (none_is e)
+    go false e = absurd (none-some _ e)
 retyped_no_text core to t const.Nil w q s e = go (is_reference t) e
   where
     go : (b : Bool) → (if b then Some const.Nil else None) ≡ Some w → IsNoText w
     go true e = subst IsNoText (some_is e) tt
-    go false e = absurd (none_is e)
-retyped_no_text core to t v w q s e = absurd (none_is e)
+    go false e = absurd (none-some _ e)
+retyped_no_text core to t v w q s e = absurd (none-some _ e)
 
 -- a value of a solid type as one of another
 pub as_type_open : (core : Core) (checked : Bool) (to : TypeId) (v : Value) → IsFitValue core v → IsSolidType core (type_of v) → IsSolidType core to → IsOpenTree core (as_type core checked to v)

@@ -13,7 +13,7 @@ use Rattle.op_core.specs.Statement.{Statement, Statements}
 use Rattle.op_core.specs.Types.{predefined}
 use Rattle.op_core.specs.Typing.{type_of}
 use Rattle.op_core.specs.declared.constant.Const.{Const}
-use Rattle.op_core.specs.declared.constant.Const.TheVariants.{Text}
+use Rattle.op_core.specs.declared.constant.Const.TheVariants.{Ordinal, Text, Set as SetOf, Nil as NilOf}
 use Rattle.op_core.specs.declared.ids.TypeId.{TypeId}
 use Rattle.op_core.specs.declared.program.Core.{Core}
 use Rattle.op_core.specs.declared.types.CoreType.{CoreType}
@@ -75,8 +75,10 @@ IsSolidTree core e = IsFitTree core e × IsSolidType core (type_of e)
 
 -- a text, or a value of a solid type
 abbrev pub IsFitConstant : Core → Const → TypeId → Type 0
+IsFitConstant core (Ordinal n) of = IsSolidType core of
 IsFitConstant core (Text bytes) of = type_at core of ≡ Some String
-IsFitConstant core v of = IsSolidType core of
+IsFitConstant core (SetOf members) of = IsSolidType core of
+IsFitConstant core NilOf of = IsSolidType core of
 
 -- A constant counts for a node of the text at least. Behind what is computed a conversion may come, and it is no text.
 abbrev pub IsFitValue : Core → Value → Type 0

@@ -3,11 +3,12 @@ use Rattle.std.proofs.Common.{◌≡◌, ◌≤◌, ◌<◌, ◌⊎◌, inl, inr
 use Rattle.std.proofs.lemmas.Bool.{cases_lt}
 use Rattle.op_constants.proofs.FieldOffsets.{all, field_aligned, field_coarser, field_extent}
 use Rattle.op_constants.proofs.Lying.{leads_within}
-use Rattle.op_constants.proofs.TypesArranged.{all_at, arranged_within, by_form, element_small, extent_kept, few, field_small, many_rows, none, some_at, unit_of}
+use Rattle.op_constants.proofs.TypesArranged.{all_at, arranged_within, by_form, element_small, extent_kept, few, field_small, many_rows, none, unit_of}
 use Rattle.op_constants.proofs.Units.{coarser, none_of, sum_of, times_of, unit_max}
 use Rattle.op_constants.specs.Arranged.{IsSmall, IsUnit}
 use Rattle.op_constants.specs.Lies.{Arrangement, IsArranged, Leads, arrangement_of, arrangement_within, bytes_in, in_parts, one_number}
 use Rattle.op_constants.specs.Offsets.{alignment_in, offset_behind, size_in}
+use Rattle.op_core.proofs.Rows.{there_is}
 use Rattle.op_core.specs.Rows.{rows}
 use Rattle.op_core.specs.Sizes.{IsBehind, KeepsExtents, extent_by, extent_of, extended, integer_size, range_of, type_at, values_of}
 use Rattle.op_core.specs.declared.ids.Run.{Run}
@@ -177,7 +178,7 @@ module _ (core : Core) (keeps : KeepsExtents core) (first : slice_get core.types
 
       each_is : (k : ℕ) → k < length fs → each_unit k ≡ (field_extent core (slice_get fs k)).alignment
       each_is k low =
-          let (f, is) = some_at fs k low in
+          let (f, is) = there_is fs k low in
           let before = all_at (λ f. f.of.0 < of.0) fs k f low is behind.1 in
           subst (λ o. unit_in (inner (field_type o)) ≡ (field_extent core o).alignment) (sym is) (parts f.of before)
 
@@ -209,7 +210,7 @@ module _ (core : Core) (keeps : KeepsExtents core) (first : slice_get core.types
   unit_within : (n : ℕ) (of : TypeId) → of.0 < n → of.0 < length core.types → unit_in (arrangement_within n core of) ≡ alignment_in core of
   unit_within zero of less there = absurd (omega arith)
   unit_within (suc n) of less there =
-      let (t, e) = some_at core.types of.0 there in
+      let (t, e) = there_is core.types of.0 there in
       let all = type_unit (arrangement_within n core) of t there e (extent_kept core keeps of t e) (keeps.behind of.0 t e) (λ part before. unit_within n part (omega arith) (omega arith)) in
       subst (λ o. UnitIs (arrangement_within n core) of o) (sym e) all
 
@@ -255,7 +256,7 @@ module _ (core : Core) (keeps : KeepsExtents core) (first : slice_get core.types
   stepped_within : (n : ℕ) (of : TypeId) → of.0 < n → IsSmall core of → IsStepped (arrangement_within n core of)
   stepped_within zero of less small = absurd (omega arith)
   stepped_within (suc n) of less small =
-      let (t, e) = some_at core.types of.0 small.there in
+      let (t, e) = there_is core.types of.0 small.there in
       let all = type_stepped n of t less small (extent_kept core keeps of t e) (keeps.behind of.0 t e) (λ part before fewer. stepped_within n part (omega arith) fewer) in
       subst (λ o. Stepped (arrangement_within n core) of o) (sym e) all
 
@@ -264,3 +265,11 @@ module _ (core : Core) (keeps : KeepsExtents core) (first : slice_get core.types
   part_aligned from of path d small part leads =
       subst (λ u. d % u ≡ 0) (unit_within (suc of.0) of (omega arith) part.there)
       (leads_stepped (arrangement_of core from) (arrangement_of core of) path d (stepped_within (suc from.0) from (omega arith) small) leads)
+
+  -- and its alignment is no more than that of what it is a part of
+  pub part_coarser : (from of : TypeId) (path : List ℕ) (d : ℕ) → IsSmall core from → IsSmall core of → Leads (arrangement_of core from) path (arrangement_of core of) d → alignment_in core of ≤ alignment_in core from
+  part_coarser from of path d small part leads =
+      let less = leads_coarser (arrangement_of core from) (arrangement_of core of) path d leads in
+      let one = unit_within (suc of.0) of (omega arith) part.there in
+      let other = unit_within (suc from.0) from (omega arith) small.there in
+      omega arith

@@ -1,7 +1,7 @@
 -- Values with parts are copied from one place to another.
 use Rattle.std.proofs.Common.{◌≡◌, ◌≤◌, ◌<◌, ◌⊎◌, inl, inr, ℕ, ◌+◌, List, [], ◌∷◌, ◌++◌, Option, Some, None, refl, sym, ap, ap₂, ◌∙◌, subst, arith, append_assoc, ◌*◌}
 use Rattle.std.specs.Prelude.{◌^◌, ◌&&◌, map, Bool, false, if◌then◌else◌}
-use Rattle.std.proofs.lemmas.Bool.{cases_lt}
+use Rattle.std.proofs.lemmas.Bool.{and_parts, cases_lt}
 use Rattle.op_compute.proofs.Registers.{put_lower}
 use Rattle.op_compute.specs.Bank.{error_block_of, scratch_of}
 use Rattle.op_compute.specs.Meaning.{IsWordOf}
@@ -35,7 +35,7 @@ use Rattle.op_mir.specs.declared.path.Path.{Path}
 use Rattle.op_mir.specs.declared.path.Root.TheVariants.{Global, Local, Through, Temporary}
 use Rattle.op_mir.specs.declared.path.Root.{Root}
 use Rattle.op_mir.specs.declared.path.Step.{Step}
-use Rattle.op_agreement.proofs.Branching.{begins_here, both_true, step_here}
+use Rattle.op_agreement.proofs.Branching.{begins_here, step_here}
 use Rattle.op_agreement.proofs.Cases.{behind_act}
 use Rattle.op_agreement.proofs.Computing.{rest_above, rest_below, rest_stands}
 use Rattle.op_agreement.proofs.Copied.{all_whole, copyable, stays_copied, stays_nothing}
@@ -65,23 +65,23 @@ regroup a b c d = simp append_assoc refl
 pub right_there : (words : Bool) (size offset : ℕ) → offset ≤ limit_of words size → is_short words size ≡ false → offset ≡ 0
 right_there words size offset less long = let none : limit_of words size ≡ 0 = ap (λ b. if b then near else 0) long in omega arith
 
-module _ (g : Setting) (fit : IsFitting g) (m : MirState) (l : State) (floors : ℕ → Floor) (is : List Instruction) (id : ℕ) where
+module _ (g : Setting) (fit : IsFitting g) (m : MirState) (l : State) (floors : ℕ → Floor) (is : List Instruction) where
   abbrev frame : Frame
   frame = (here m floors).frame
 
   -- a path to a value with parts begins with what has an address
-  placed_parts : (i : Instruction) (next : Next g m l floors i is id) (root : Root) (steps : List Step) (of : TypeId) → shape_of g.core of ≡ composite → PathTo g.core (here m floors).number (view_path (record { root = root; steps = steps })) of → IsRooted g.core (here m floors).number frame root → IsPlaced g.core (here m floors).number frame root
+  placed_parts : (i : Instruction) (next : Next g m l floors i is) (root : Root) (steps : List Step) (of : TypeId) → shape_of g.core of ≡ composite → PathTo g.core (here m floors).number (view_path (record { root = root; steps = steps })) of → IsRooted g.core (here m floors).number frame root → IsPlaced g.core (here m floors).number frame root
   placed_parts i next (Global v) steps of parts typed rooted = tt
   placed_parts i next (Through v) steps of parts typed rooted = tt
   placed_parts i next (Temporary to n) steps of parts typed rooted = rooted
   placed_parts i next (Local v) [] of parts typed rooted =
       let (variable, type) = typed.root in
       next.stays.activation.floor.fits.composites v variable (ap (shape_of g.core) (type ∙ typed.reaches) ∙ parts)
-  placed_parts i next (Local v) (st ∷ ss) of parts typed rooted = placed_part g fit m l floors is id i next v st ss of typed
+  placed_parts i next (Local v) (st ∷ ss) of parts typed rooted = placed_part g fit m l floors is i next v st ss of typed
 
-  module _ (of : TypeId) (to from : Path) (landing : Option BlockId) (next : Next g m l floors (Act (Copy of to from) landing) is id) where
+  module _ (of : TypeId) (to from : Path) (landing : Option BlockId) (next : Next g m l floors (Act (Copy of to from) landing) is) where
     abbrev rest : List LowInstruction
-    rest = rest_below g m l floors (Act (Copy of to from) landing) is id next
+    rest = rest_below g m l floors (Act (Copy of to from) landing) is next
 
     abbrev words : Bool
     words = by_words g.core of
@@ -122,12 +122,12 @@ module _ (g : Setting) (fit : IsFitting g) (m : MirState) (l : State) (floors : 
     -- ---- the step of managed code
 
     abbrev copied : Option Place → Option Place → MirState
-    copied o p = record m { world = at_place g.core o (λ q. at_place g.core p (λ t. with_value t (value_at m.world q) m.world) m.world) m.world; rest = rest_above g m l floors (Act (Copy of to from) landing) is id next }
+    copied o p = record m { world = at_place g.core o (λ q. at_place g.core p (λ t. with_value t (value_at m.world q) m.world) m.world) m.world; rest = rest_above g m l floors (Act (Copy of to from) landing) is next }
 
     -- as an equation, and that its world is plain
     copy_step : (o p : Option Place) → place_meant m.world (view_path from) ≡ o → place_meant m.world (view_path to) ≡ p → mir_step (managed g) m ≡ copied o p
     unfolding execute perform
-    copy_step o p e f = step_here g fit m l floors (Act (Copy of to from) landing) is id next ∙ ap₂ copied e f
+    copy_step o p e f = step_here g fit m l floors (Act (Copy of to from) landing) is next ∙ ap₂ copied e f
 
     copy_plain : (o p : Option Place) → place_meant m.world (view_path from) ≡ o → place_meant m.world (view_path to) ≡ p → IsPlainWorld (copied o p).world
     unfolding perform
@@ -140,8 +140,8 @@ module _ (g : Setting) (fit : IsFitting g) (m : MirState) (l : State) (floors : 
     indices : HaveIndices (here m floors).routine to.steps × HaveIndices (here m floors).routine from.steps
     unfolding action_fits copy_fits
     indices =
-        let (front, last) = both_true (has_type g.mir of && path_fits g.mir (here m floors).routine to) (path_fits g.mir (here m floors).routine from) next.fine.0 in
-        let (first, middle) = both_true (has_type g.mir of) (path_fits g.mir (here m floors).routine to) front in
+        let (front, last) = and_parts (has_type g.mir of && path_fits g.mir (here m floors).routine to) (path_fits g.mir (here m floors).routine from) next.fine.0 in
+        let (first, middle) = and_parts (has_type g.mir of) (path_fits g.mir (here m floors).routine to) front in
         (indices_in g.mir (here m floors).routine to middle, indices_in g.mir (here m floors).routine from last)
 
     to_placed : IsPlaced g.core (here m floors).number (here m floors).frame to.root
@@ -171,11 +171,11 @@ module _ (g : Setting) (fit : IsFitting g) (m : MirState) (l : State) (floors : 
       behind_copies : (h memory : ℕ → ℕ) → Goes g 1 (place_most from + place_most to + copy_most (size_in g.core of)) l (having l h rest memory) → Stays g floors (copied (Some q) (Some p)) (having l h rest memory) → Comes g m l
       behind_copies h memory goes stays = record {
         to = having l h rest memory;
-        goes = goes_within g 1 (most_for_one * mir_cost (managed g) m) l (having l h rest memory) goes (afford g fit m l floors (Act (Copy of to from) landing) is id next (λ light. light) (place_most from + place_most to + copy_most (size_in g.core of)) (omega arith));
+        goes = goes_within g 1 (most_for_one * mir_cost (managed g) m) l (having l h rest memory) goes (afford g fit m l floors (Act (Copy of to from) landing) is next (λ light. light) (place_most from + place_most to + copy_most (size_in g.core of)) (omega arith));
         stands = subst (λ x. Stands g x (having l h rest memory)) (sym (copy_step (Some q) (Some p) e f)) (stands_on g (copied (Some q) (Some p)) (having l h rest memory) next.ending next.frames (record {
           floors = floors;
           stays = stays;
-          position = rest_stands g m l floors (Act (Copy of to from) landing) is id next (behind_act next.on);
+          position = rest_stands g m l floors (Act (Copy of to from) landing) is next (behind_act next.on);
         }));
       }
 
@@ -216,7 +216,7 @@ module _ (g : Setting) (fit : IsFitting g) (m : MirState) (l : State) (floors : 
               behind_copies h l.memory
               (goes_within g 1 (place_most from + place_most to + copy_most (size_in g.core of)) l (at l h rest)
               (goes_then g 0 1 1 l (at l second.h (copies ++ rest)) (at l h rest) (omega arith) before (none_goes g l low words (size_in g.core of) source target second.h rest none)) (omega arith))
-              (stays_nothing g fit m l floors next.stays of small p b second.is none (value_at m.world q) (rest_above g m l floors (Act (Copy of to from) landing) is id next) h rest (copy_plain (Some q) (Some p) e f) (variables_kept h kept) (temporaries_kept h kept))
+              (stays_nothing g fit m l floors next.stays of small p b second.is none (value_at m.world q) (rest_above g m l floors (Act (Copy of to from) landing) is next) h rest (copy_plain (Some q) (Some p) e f) (variables_kept h kept) (temporaries_kept h kept))
           by (inl some) =
               let (source_base, source_more, source_near) = source_fits in
               let (target_base, target_more, target_near) = target_fits in
@@ -230,7 +230,7 @@ module _ (g : Setting) (fit : IsFitting g) (m : MirState) (l : State) (floors : 
               let kept = kept_all first.h second.h it.h first.kept second.kept it.kept in
               behind_copies it.h it.memory
               (goes_then g 0 1 1 l (at l second.h (copies ++ rest)) (having l it.h rest it.memory) (omega arith) before it.goes)
-              (stays_copied g fit m l floors next.stays of small q p a b first.is second.is some it.memory it.copied (rest_above g m l floors (Act (Copy of to from) landing) is id next) it.h rest (copy_plain (Some q) (Some p) e f) (variables_kept it.h kept) (temporaries_kept it.h kept))
+              (stays_copied g fit m l floors next.stays of small q p a b first.is second.is some it.memory it.copied (rest_above g m l floors (Act (Copy of to from) landing) is next) it.h rest (copy_plain (Some q) (Some p) e f) (variables_kept it.h kept) (temporaries_kept it.h kept))
 
     -- ---- one after the other
 
@@ -238,12 +238,12 @@ module _ (g : Setting) (fit : IsFitting g) (m : MirState) (l : State) (floors : 
     target_by : (q : Place) → place_meant m.world (view_path from) ≡ Some q → (least : ℕ) → (first : Reached g fit m l floors next.stays least (place_most from) l l.top.registers free source behind_source q of) → (p : Option Place) → place_meant m.world (view_path to) ≡ p → (more : ℕ) → PlaceTo g fit m l floors next.stays more (place_most to) (at l first.h behind_source) first.h source.free target (copies ++ rest) of p → Comes g m l
     target_by q e least first None f more fails =
         let all : Failed g fit m l floors next.stays 0 (place_most from + place_most to) l = record { h = fails.h; goes = goes_then g least more 0 l (at l first.h behind_source) (at l fails.h (block_of g.low l.top.routine (error_block_of (here m floors).frame.bank RangeCheck).0)) (omega arith) first.goes fails.goes } in
-        index_fails g fit m l floors is id (Act (Copy of to from) landing) next 0 (place_most from + place_most to) l refl all (afford g fit m l floors (Act (Copy of to from) landing) is id next (λ light. light) (place_most from + place_most to + 5) (omega arith)) (copy_step (Some q) None e f)
+        index_fails g fit m l floors is (Act (Copy of to from) landing) next 0 (place_most from + place_most to) l refl all (afford g fit m l floors (Act (Copy of to from) landing) is next (λ light. light) (place_most from + place_most to + 5) (omega arith)) (copy_step (Some q) None e f)
     target_by q e least first (Some p) f more second = both_reached q p e f least first more second
 
     -- the source
     source_by : (o : Option Place) → place_meant m.world (view_path from) ≡ o → (least : ℕ) → PlaceTo g fit m l floors next.stays least (place_most from) l l.top.registers free source behind_source of o → Comes g m l
-    source_by None e least fails = index_fails g fit m l floors is id (Act (Copy of to from) landing) next least (place_most from) l refl fails (afford g fit m l floors (Act (Copy of to from) landing) is id next (λ light. light) (place_most from + 5) (omega arith)) (copy_step None (place_meant m.world (view_path to)) e refl)
+    source_by None e least fails = index_fails g fit m l floors is (Act (Copy of to from) landing) next least (place_most from) l refl fails (afford g fit m l floors (Act (Copy of to from) landing) is next (λ light. light) (place_most from + 5) (omega arith)) (copy_step None (place_meant m.world (view_path to)) e refl)
     source_by (Some q) e least first =
         let (base, more, offset) = source_fits in
         target_by q e least first (place_meant m.world (view_path to)) refl (fewest_steps target_code)
@@ -253,7 +253,7 @@ module _ (g : Setting) (fit : IsFitting g) (m : MirState) (l : State) (floors : 
     pub copy_comes : Comes g m l
     unfolding code_for
     copy_comes =
-        let begins : l ≡ at l l.top.registers (source_code ++ behind_source) = begins_here g fit m l floors (Act (Copy of to from) landing) is id next (source_code ++ target_code ++ copies) refl ∙ ap (at l l.top.registers) (regroup source_code target_code copies rest) in
+        let begins : l ≡ at l l.top.registers (source_code ++ behind_source) = begins_here g fit m l floors (Act (Copy of to from) landing) is next (source_code ++ target_code ++ copies) refl ∙ ap (at l l.top.registers) (regroup source_code target_code copies rest) in
         source_by (place_meant m.world (view_path from)) refl (fewest_steps source_code)
         (subst (λ x. PlaceTo g fit m l floors next.stays (fewest_steps source_code) (place_most from) x l.top.registers free source behind_source of (place_meant m.world (view_path from))) (sym begins)
         (place_goes g fit m l floors next.stays from of limit free l.top.registers behind_source from_typed from_placed indices.1 (omega arith) (λ r low. refl)))

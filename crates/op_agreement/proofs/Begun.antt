@@ -24,7 +24,7 @@ use Rattle.op_mir.specs.Machine.{MirState}
 use Rattle.op_mir.specs.Plain.{IsPlainWorld}
 use Rattle.op_mir.specs.declared.ids.LocalId.{LocalId}
 use Rattle.op_mir.specs.declared.path.Root.TheVariants.{Local}
-use Rattle.op_agreement.proofs.Charting.{live_apart, live_stands, same_is}
+use Rattle.op_agreement.proofs.Charting.{live_apart, live_stands, local_stands, same_is}
 use Rattle.op_agreement.proofs.Counting.{count_below}
 use Rattle.op_agreement.proofs.Sparing.{spare_fits}
 use Rattle.op_agreement.proofs.Standing.{here}
@@ -145,13 +145,14 @@ module _ (g : Setting) (fit : IsFitting g) (floors : ℕ → Floor) (m : MirStat
     -- what else is live has none of the whole words of the variable
     far_from : (h : Holder) → same_holder h holder ≡ false → Live g.core floors level h → (y : ℕ) → address_of g floors h ≤ y → y < address_of g floors h + size_in g.core (type_held g.core floors h) → (y < place) ⊎ (place + rounded (size_in g.core of) ≤ y)
     far_from h other live y up down =
-        let mine = live_stands g fit floors level l.limit (floors_here g fit floors m l s) (limit_here g fit floors m l s) holder live_here in
+        let mine = local_stands g fit floors level l.limit (floors_here g fit floors m l s) (limit_here g fit floors m l s) level v.0 live_here in
         let its = live_stands g fit floors level l.limit (floors_here g fit floors m l s) (limit_here g fit floors m l s) h live in
-        by mine.words its.words (live_apart g fit floors level l.limit (floors_here g fit floors m l s) (limit_here g fit floors m l s) h holder other live live_here)
+        by mine.0 mine.1 its.words (live_apart g fit floors level l.limit (floors_here g fit floors m l s) (limit_here g fit floors m l s) h holder other live live_here)
       where
-        by : place % 4 ≡ 0 → address_of g floors h % 4 ≡ 0 → Apart (address_of g floors h) (size_in g.core (type_held g.core floors h)) place (size_in g.core of) → (y < place) ⊎ (place + rounded (size_in g.core of) ≤ y)
-        by mine its (inl before) = inl (omega arith)
-        by mine its (inr behind) = let within = rounded_within place (address_of g floors h) (size_in g.core of) mine its behind in inr (omega arith)
+        by : place % 4 ≡ 0 → g.bottom ≤ place → (address_of g floors h + size_in g.core (type_held g.core floors h) ≤ g.bottom) ⊎ (address_of g floors h % 4 ≡ 0) → Apart (address_of g floors h) (size_in g.core (type_held g.core floors h)) place (size_in g.core of) → (y < place) ⊎ (place + rounded (size_in g.core of) ≤ y)
+        by mine above (inl below) apart = inl (omega arith)
+        by mine above (inr its) (inl before) = inl (omega arith)
+        by mine above (inr its) (inr behind) = let within = rounded_within place (address_of g floors h) (size_in g.core of) mine its behind in inr (omega arith)
 
     -- all that is live lies where it did, and the variable's value at its place
     all_lie : Lies (arrangement_of g.core of) x memory place → AllLie g floors level values memory

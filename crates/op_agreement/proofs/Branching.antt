@@ -1,30 +1,10 @@
 -- Instructions that are straight code: constants and computations, jumps, branches, switches and what stands behind a finally part.
 use Rattle.std.proofs.Common.{◌≡◌, ◌<◌, ◌≤◌, ℕ, zero, suc, ◌+◌, ◌*◌, List, [], ◌∷◌, ◌++◌, length, Option, Some, None, refl, sym, ap, ap₂, ◌∙◌, subst, arith}
-use Rattle.std.specs.Prelude.{Bool, true, false, ◌&&◌}
+use Rattle.std.specs.Prelude.{true, ◌&&◌}
+use Rattle.std.proofs.lemmas.Bool.{and_parts}
 use Rattle.std.specs.Option.{option_map}
 use Rattle.std.proofs.lemmas.Bool.Decides.{nat_tests}
 use Rattle.std.proofs.lemmas.Option.{slice_get-map}
-use Rattle.op_compute.specs.Bank.{error_block_of, operands_of, register_of, work_of}
-use Rattle.op_compute.specs.Computing.{registers_of}
-use Rattle.op_compute.specs.Meaning.{Answers, HasWords, IsApart, Meant, block_for, fails, gives, left_of, right_of, settled, to_of}
-use Rattle.op_compute.specs.Straight.{Away, Behind, Crooked, Outcome, at, fewest_steps, outcome}
-use Rattle.op_compute.specs.Turning.{Turns}
-use Rattle.op_compute.specs.declared.bank.Bank.{Bank}
-use Rattle.op_compute.specs.declared.bank.RuntimeError.TheVariants.{DivisionByZero, RangeCheck, StackOverflow, IntegerOverflow}
-use Rattle.op_compute.specs.declared.bank.RuntimeError.{RuntimeError}
-use Rattle.op_constants.proofs.TypesArranged.{some_at}
-use Rattle.op_expand.specs.Calls.{runtime}
-use Rattle.op_low.specs.State.{State, block_of}
-use Rattle.op_low.specs.declared.instruction.Instruction.{Instruction as LowInstruction}
-use Rattle.op_mir.specs.Machine.{MirState, block_at, block_or, execute, go_if, mir_cost, mir_step}
-use Rattle.op_mir.specs.Valid.{computation_fits, has, has_three, has_two}
-use Rattle.op_mir.specs.View.{view_block, view_computation, view_instruction, view_routine}
-use Rattle.op_mir.specs.declared.action.Computation.TheVariants.{Arithmetic, Compare, Negate, Complement, Invert, Absolute, Odd, Upper, LowBits, Check, Neighbour, Single, Span, Combine, Contains, CheckSet}
-use Rattle.op_mir.specs.declared.action.Computation.{Computation}
-use Rattle.op_mir.specs.declared.code.Routine.{Routine}
-use Rattle.op_mir.specs.declared.ids.BlockId.{BlockId}
-use Rattle.op_mir.specs.declared.ids.TemporaryId.{TemporaryId}
-use Rattle.op_mir.specs.declared.instruction.Instruction.{Instruction}
 use Rattle.op_agreement.proofs.Computing.{all_variables_kept, nothing_stands, number_stands, rest_above, rest_below, temporaries_kept}
 use Rattle.op_agreement.proofs.ErrorsEnd.{error_ends}
 use Rattle.op_agreement.proofs.Following.{Comes}
@@ -33,12 +13,34 @@ use Rattle.op_agreement.proofs.Pricing.{afford}
 use Rattle.op_agreement.proofs.Standing.{Next, here, stands_on, stays_registers, step_is}
 use Rattle.op_agreement.specs.Chart.{Floor}
 use Rattle.op_agreement.specs.Coding.{code_for, front_of}
-use Rattle.op_expand.specs.Routines.{code_of}
 use Rattle.op_agreement.specs.Fitting.{IsFitting}
 use Rattle.op_agreement.specs.Settings.{HaveHomes, Setting, managed}
 use Rattle.op_agreement.specs.Stands.{IsFloor, Position, Stands}
 use Rattle.op_agreement.specs.Steps.{most_for_one}
 use Rattle.op_agreement.specs.Typed.{AreFine, IsLight, IsTarget, IsTypedAction}
+use Rattle.op_compute.specs.Bank.{error_block_of, operands_of, register_of, work_of}
+use Rattle.op_compute.specs.Computing.{registers_of}
+use Rattle.op_compute.specs.Meaning.{Answers, HasWords, IsApart, Meant, block_for, fails, gives, left_of, right_of, settled, to_of}
+use Rattle.op_compute.specs.Straight.{Away, Behind, Crooked, Outcome, at, fewest_steps, outcome}
+use Rattle.op_compute.specs.Turning.{Turns}
+use Rattle.op_compute.specs.declared.bank.Bank.{Bank}
+use Rattle.op_compute.specs.declared.bank.RuntimeError.{RuntimeError}
+use Rattle.op_compute.specs.declared.bank.RuntimeError.TheVariants.{DivisionByZero, RangeCheck, StackOverflow, IntegerOverflow}
+use Rattle.op_constants.specs.Literals.{literals_of}
+use Rattle.op_core.proofs.Rows.{there_is}
+use Rattle.op_expand.specs.Calls.{runtime}
+use Rattle.op_expand.specs.Routines.{code_of}
+use Rattle.op_low.specs.State.{State, block_of}
+use Rattle.op_low.specs.declared.instruction.Instruction.{Instruction as LowInstruction}
+use Rattle.op_mir.specs.Machine.{MirState, block_at, block_or, execute, go_if, mir_cost, mir_step}
+use Rattle.op_mir.specs.Valid.{computation_fits, has, has_three, has_two}
+use Rattle.op_mir.specs.View.{view_block, view_computation, view_instruction, view_routine}
+use Rattle.op_mir.specs.declared.action.Computation.{Computation}
+use Rattle.op_mir.specs.declared.action.Computation.TheVariants.{Arithmetic, Compare, Negate, Complement, Invert, Absolute, Odd, Upper, LowBits, Check, Neighbour, Single, Span, Combine, Contains, CheckSet}
+use Rattle.op_mir.specs.declared.code.Routine.{Routine}
+use Rattle.op_mir.specs.declared.ids.BlockId.{BlockId}
+use Rattle.op_mir.specs.declared.ids.TemporaryId.{TemporaryId}
+use Rattle.op_mir.specs.declared.instruction.Instruction.{Instruction}
 
 -- ---- code
 
@@ -51,21 +53,16 @@ some_last (x ∷ xs) i = refl
 low_of : (x : Routine) (t : TemporaryId) → has x t ≡ true → t.0 < x.temporaries
 low_of x t is = grind (arith, nat_tests)
 
-pub both_true : (a b : Bool) → (a && b) ≡ true → (a ≡ true) × (b ≡ true)
-both_true true true e = (refl, refl)
-both_true true false e = absurd cc
-both_true false b e = absurd cc
-
 pub has_of : (x : Routine) (t : TemporaryId) → has x t ≡ true → t.0 < x.temporaries
 has_of x t is = low_of x t is
 
 pub two_of : (x : Routine) (a b : TemporaryId) → has_two x a b ≡ true → (a.0 < x.temporaries) × (b.0 < x.temporaries)
-two_of x a b is = let (p, q) = both_true (has x a) (has x b) is in (low_of x a p, low_of x b q)
+two_of x a b is = let (p, q) = and_parts (has x a) (has x b) is in (low_of x a p, low_of x b q)
 
 pub three_of : (x : Routine) (a b c : TemporaryId) → has_three x a b c ≡ true → (a.0 < x.temporaries) × (b.0 < x.temporaries) × (c.0 < x.temporaries)
 three_of x a b c is =
-    let (pq, r) = both_true (has x a && has x b) (has x c) is in
-    let (p, q) = both_true (has x a) (has x b) pq in
+    let (pq, r) = and_parts (has x a && has x b) (has x c) is in
+    let (p, q) = and_parts (has x a) (has x b) pq in
     (low_of x a p, low_of x b q, low_of x c r)
 
 -- the temporaries of a computation are there, and the scratch registers stand behind their registers
@@ -137,16 +134,15 @@ front_none g f (suc k) some = refl
 -- a block that is not the first one stands in both codes
 pub block_stands : (g : Setting) → IsFitting g → (f : Floor) → IsFloor g f → (block : BlockId) → IsTarget f.routine block → Position g f (block_at ((managed g).blocks f.number) block.0) (block_of g.low (runtime + f.number) block.0)
 block_stands g fit f floor block (some, low) =
-    let (b, found) = some_at f.routine.blocks block.0 low in
+    let (b, found) = there_is f.routine.blocks block.0 low in
     let fits = fit.routines f.number f.routine floor.found floor.charge in
     let stands = floor.expanded.blocks block.0 b found in
     record {
       is = b.code;
-      id = stands.id;
       above =
           ap (λ x. block_at (view_routine g.core f.number x) block.0) floor.found
           ∙ ap block_or (slice_get-map (view_block g.core f.number) f.routine.blocks block.0 ∙ ap (option_map (view_block g.core f.number)) found);
-      below = stands.code ∙ ap (λ front. front ++ code_of g.core g.mir f.frame f.number stands.id b.code) (front_none g f block.0 some);
+      below = stands.code ∙ ap (λ front. front ++ code_of g.core g.mir f.frame (literals_of g.core g.mir) b.code) (front_none g f block.0 some);
       literals = stands.literals;
       fine = fits.fine block.0 b found;
       homes = subst (λ frame. HaveHomes g.core f.number frame b.code) (sym floor.framed) (fits.homes block.0 b found);
@@ -154,41 +150,41 @@ block_stands g fit f floor block (some, low) =
 
 -- ---- straight code that comes to what is meant
 
-module _ (g : Setting) (fit : IsFitting g) (m : MirState) (l : State) (floors : ℕ → Floor) (i : Instruction) (is : List Instruction) (id : ℕ) (next : Next g m l floors i is id) where
+module _ (g : Setting) (fit : IsFitting g) (m : MirState) (l : State) (floors : ℕ → Floor) (i : Instruction) (is : List Instruction) (next : Next g m l floors i is) where
   floor_here : IsFloor g (here m floors)
   floor_here = next.stays.activation.floor
 
   abbrev pub bank_here : Bank
   bank_here = (here m floors).frame.bank
 
-  pub step_here : mir_step (managed g) m ≡ execute (managed g) (view_instruction g.core (here m floors).number i) (record m { rest = rest_above g m l floors i is id next })
-  step_here = step_is g m (view_instruction g.core (here m floors).number i) (rest_above g m l floors i is id next) next.ending next.stays.plain.raised next.frames next.above
+  pub step_here : mir_step (managed g) m ≡ execute (managed g) (view_instruction g.core (here m floors).number i) (record m { rest = rest_above g m l floors i is next })
+  step_here = step_is g m (view_instruction g.core (here m floors).number i) (rest_above g m l floors i is next) next.ending next.stays.plain.raised next.frames next.above
 
   -- the machine stands before the code
-  pub begins_here : (code : List LowInstruction) → code_for g.core g.mir (here m floors).frame id i ≡ code → l ≡ at l l.top.registers (code ++ rest_below g m l floors i is id next)
-  begins_here code is_code = standing g l (code ++ rest_below g m l floors i is id next) next.stays.running (next.below ∙ ap (λ c. c ++ rest_below g m l floors i is id next) is_code)
+  pub begins_here : (code : List LowInstruction) → code_for g.core g.mir (here m floors).frame i ≡ code → l ≡ at l l.top.registers (code ++ rest_below g m l floors i is next)
+  begins_here code is_code = standing g l (code ++ rest_below g m l floors i is next) next.stays.running (next.below ∙ ap (λ c. c ++ rest_below g m l floors i is next) is_code)
 
-  runs_here : (code : List LowInstruction) → code_for g.core g.mir (here m floors).frame id i ≡ code → fewest_steps code ≡ 1 → GoesTo g 1 (length code) l l (rest_below g m l floors i is id next) (outcome code l.top.registers)
+  runs_here : (code : List LowInstruction) → code_for g.core g.mir (here m floors).frame i ≡ code → fewest_steps code ≡ 1 → GoesTo g 1 (length code) l l (rest_below g m l floors i is next) (outcome code l.top.registers)
   runs_here code is_code some =
-      subst (λ x. GoesTo g 1 (length code) l x (rest_below g m l floors i is id next) (outcome code l.top.registers)) (sym (begins_here code is_code))
-      (subst (λ n. GoesTo g n (length code) l (at l l.top.registers (code ++ rest_below g m l floors i is id next)) (rest_below g m l floors i is id next) (outcome code l.top.registers)) some
-      (goes_straight g l code (rest_below g m l floors i is id next) l.top.registers))
+      subst (λ x. GoesTo g 1 (length code) l x (rest_below g m l floors i is next) (outcome code l.top.registers)) (sym (begins_here code is_code))
+      (subst (λ n. GoesTo g n (length code) l (at l l.top.registers (code ++ rest_below g m l floors i is next)) (rest_below g m l floors i is next) (outcome code l.top.registers)) some
+      (goes_straight g l code (rest_below g m l floors i is next) l.top.registers))
 
   -- a temporary becomes a number, or an error ends the program
-  pub answered : (code : List LowInstruction) (to : TemporaryId) (x : Meant) → code_for g.core g.mir (here m floors).frame id i ≡ code → fewest_steps code ≡ 1 → length code ≤ 16 → (IsLight i → ⊥) → AreFine g.core g.mir (here m floors).number (here m floors).routine is → Answers (work_of bank_here) (register_of bank_here to) l.top.registers x (outcome code l.top.registers) → mir_step (managed g) m ≡ record m { world = settled g.core to.0 x m.world; rest = rest_above g m l floors i is id next } → Comes g m l
+  pub answered : (code : List LowInstruction) (to : TemporaryId) (x : Meant) → code_for g.core g.mir (here m floors).frame i ≡ code → fewest_steps code ≡ 1 → length code ≤ 16 → (IsLight i → ⊥) → AreFine g.core g.mir (here m floors).number (here m floors).routine is → Answers (work_of bank_here) (register_of bank_here to) l.top.registers x (outcome code l.top.registers) → mir_step (managed g) m ≡ record m { world = settled g.core to.0 x m.world; rest = rest_above g m l floors i is next } → Comes g m l
   answered code to x is_code some short heavy fine answers step = by x (outcome code l.top.registers) (runs_here code is_code some) answers step
     where
       affords : (n : ℕ) → n ≤ 32 → n ≤ most_for_one * mir_cost (managed g) m
-      affords n few = afford g fit m l floors i is id next heavy n (omega arith)
+      affords n few = afford g fit m l floors i is next heavy n (omega arith)
 
-      by : (x : Meant) (o : Outcome) → GoesTo g 1 (length code) l l (rest_below g m l floors i is id next) o → Answers (work_of bank_here) (register_of bank_here to) l.top.registers x o → mir_step (managed g) m ≡ record m { world = settled g.core to.0 x m.world; rest = rest_above g m l floors i is id next } → Comes g m l
+      by : (x : Meant) (o : Outcome) → GoesTo g 1 (length code) l l (rest_below g m l floors i is next) o → Answers (work_of bank_here) (register_of bank_here to) l.top.registers x o → mir_step (managed g) m ≡ record m { world = settled g.core to.0 x m.world; rest = rest_above g m l floors i is next } → Comes g m l
       by (gives n) (Behind h) goes answers step = record {
-        to = at l h (rest_below g m l floors i is id next);
-        goes = goes_within g 1 (most_for_one * mir_cost (managed g) m) l (at l h (rest_below g m l floors i is id next)) goes (affords (length code) (omega arith));
-        stands = subst (λ k. Stands g k (at l h (rest_below g m l floors i is id next))) (sym step) (number_stands g m l floors i is id next to n h fine answers);
+        to = at l h (rest_below g m l floors i is next);
+        goes = goes_within g 1 (most_for_one * mir_cost (managed g) m) l (at l h (rest_below g m l floors i is next)) goes (affords (length code) (omega arith));
+        stands = subst (λ k. Stands g k (at l h (rest_below g m l floors i is next))) (sym step) (number_stands g m l floors i is next to n h fine answers);
       }
       by (fails e) (Away block h) goes answers step =
-          let (k, ends, stands) = error_ends g fit floors m l next.stays e h (rest_above g m l floors i is id next) in
+          let (k, ends, stands) = error_ends g fit floors m l next.stays e h (rest_above g m l floors i is next) in
           record {
             to = k;
             goes = goes_within g 1 (most_for_one * mir_cost (managed g) m) l k
@@ -203,14 +199,14 @@ module _ (g : Setting) (fit : IsFitting g) (m : MirState) (l : State) (floors : 
 
   -- ---- code that goes to a block, or on
 
-  pub turned : (code : List LowInstruction) (target : Option ℕ) → code_for g.core g.mir (here m floors).frame id i ≡ code → fewest_steps code ≡ 1 → length code ≤ most_for_one * mir_cost (managed g) m → (target ≡ None → AreFine g.core g.mir (here m floors).number (here m floors).routine is) → ((k : ℕ) → target ≡ Some k → IsTarget (here m floors).routine (record { 0 = k })) → Turns (work_of bank_here) l.top.registers target (outcome code l.top.registers) → mir_step (managed g) m ≡ go_if (managed g) target (record m { rest = rest_above g m l floors i is id next }) → Comes g m l
+  pub turned : (code : List LowInstruction) (target : Option ℕ) → code_for g.core g.mir (here m floors).frame i ≡ code → fewest_steps code ≡ 1 → length code ≤ most_for_one * mir_cost (managed g) m → (target ≡ None → AreFine g.core g.mir (here m floors).number (here m floors).routine is) → ((k : ℕ) → target ≡ Some k → IsTarget (here m floors).routine (record { 0 = k })) → Turns (work_of bank_here) l.top.registers target (outcome code l.top.registers) → mir_step (managed g) m ≡ go_if (managed g) target (record m { rest = rest_above g m l floors i is next }) → Comes g m l
   turned code target is_code some few fine there turns step = by target (outcome code l.top.registers) (runs_here code is_code some) fine there turns step
     where
-      by : (target : Option ℕ) (o : Outcome) → GoesTo g 1 (length code) l l (rest_below g m l floors i is id next) o → (target ≡ None → AreFine g.core g.mir (here m floors).number (here m floors).routine is) → ((k : ℕ) → target ≡ Some k → IsTarget (here m floors).routine (record { 0 = k })) → Turns (work_of bank_here) l.top.registers target o → mir_step (managed g) m ≡ go_if (managed g) target (record m { rest = rest_above g m l floors i is id next }) → Comes g m l
+      by : (target : Option ℕ) (o : Outcome) → GoesTo g 1 (length code) l l (rest_below g m l floors i is next) o → (target ≡ None → AreFine g.core g.mir (here m floors).number (here m floors).routine is) → ((k : ℕ) → target ≡ Some k → IsTarget (here m floors).routine (record { 0 = k })) → Turns (work_of bank_here) l.top.registers target o → mir_step (managed g) m ≡ go_if (managed g) target (record m { rest = rest_above g m l floors i is next }) → Comes g m l
       by None (Behind h) goes fine there turns step = record {
-        to = at l h (rest_below g m l floors i is id next);
-        goes = goes_within g 1 (most_for_one * mir_cost (managed g) m) l (at l h (rest_below g m l floors i is id next)) goes few;
-        stands = subst (λ k. Stands g k (at l h (rest_below g m l floors i is id next))) (sym step) (nothing_stands g m l floors i is id next h (fine refl) turns);
+        to = at l h (rest_below g m l floors i is next);
+        goes = goes_within g 1 (most_for_one * mir_cost (managed g) m) l (at l h (rest_below g m l floors i is next)) goes few;
+        stands = subst (λ k. Stands g k (at l h (rest_below g m l floors i is next))) (sym step) (nothing_stands g m l floors i is next h (fine refl) turns);
       }
       by (Some k) (Away block h) goes fine there (same, kept) step =
           let s = next.stays in

@@ -1,5 +1,5 @@
 -- A routine returns a value, and the caller that waits for it goes on.
-use Rattle.std.proofs.Common.{◌≡◌, ◌≢◌, ◌≤◌, ◌<◌, ◌⊎◌, inl, inr, ℕ, suc, ◌+◌, ◌-◌, List, [], ◌∷◌, length, Some, None, sym, ap, ap₂, ◌∙◌, subst, arith}
+use Rattle.std.proofs.Common.{◌≡◌, ◌≢◌, ◌≤◌, ◌<◌, ◌⊎◌, inl, inr, ℕ, suc, ◌+◌, ◌-◌, List, [], ◌∷◌, length, Some, None, sym, ap, ap₂, ◌∙◌, subst, arith, refl}
 use Rattle.std.specs.Prelude.{Bool, true, false, nat_eq, slice_get, if◌then◌else◌}
 use Rattle.std.proofs.lemmas.Bool.{cases_eq}
 use Rattle.std.proofs.lemmas.Bool.Decides.{nat_tests}
@@ -112,7 +112,7 @@ module _ (g : Setting) (fit : IsFitting g) (m : MirState) (l : State) (floors : 
       goes_to g 1 (having l f (LowReturn r ∷ rest) memory) (act g.low g.placement (LowReturn r) (having l f rest memory)) (record (gone_below (f r.0)) { memory = memory })
       (ap (λ xs. return_to g.low g.placement (f r.0) xs (having l f rest memory)) lows
       ∙ ap₂ (λ (x y : ℕ). let z : State = record l { top = with_value lc.to (f r.0) lc.activation; callers = lcs; limit = x; room = y; memory = memory; ending = Running } in z) limit room)
-      (goes_one g (record l { memory = memory }) f (LowReturn r) rest)
+      (goes_one g (record l { memory = memory }) f (LowReturn r) rest refl)
 
   -- other registers of the caller are as they were
   register_kept : (v r : ℕ) → r ≢ lc.to.0 → (with_value lc.to v lc.activation).registers r ≡ lc.activation.registers r

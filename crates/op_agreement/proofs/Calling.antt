@@ -6,7 +6,7 @@ use Rattle.std.proofs.lemmas.Bool.Decides.{nat_tests}
 use Rattle.op_compute.specs.Bank.{error_block_of, scratch_of}
 use Rattle.op_compute.specs.Straight.{at, put}
 use Rattle.op_compute.specs.declared.bank.RuntimeError.TheVariants.{StackOverflow}
-use Rattle.op_constants.proofs.TypesArranged.{some_at}
+use Rattle.op_core.proofs.Rows.{there_is}
 use Rattle.op_core.specs.declared.ids.RoutineId.{RoutineId}
 use Rattle.op_expand.specs.Calls.{call_code, charge_of, charging_code, givens_code, givens_in, receiver_code, receiver_of, receiver_spot, runtime, given_spot}
 use Rattle.op_expand.specs.Frames.{parameters_of}
@@ -52,12 +52,12 @@ use Rattle.op_agreement.specs.Typed.{parameter_rows}
 regroup : (a b c : List LowInstruction) (d : LowInstruction) (rest : List LowInstruction) → (a ++ b ++ c ++ d ∷ []) ++ rest ≡ a ++ (b ++ (c ++ (d ∷ rest)))
 regroup a b c d rest = simp append_assoc refl
 
-module _ (g : Setting) (fit : IsFitting g) (m : MirState) (l : State) (floors : ℕ → Floor) (callee : RoutineId) (call : Operands) (js : List Instruction) (id : ℕ) (next : Next g m l floors (Call callee call) js id) where
+module _ (g : Setting) (fit : IsFitting g) (m : MirState) (l : State) (floors : ℕ → Floor) (callee : RoutineId) (call : Operands) (js : List Instruction) (next : Next g m l floors (Call callee call) js) where
   abbrev frame_here : Frame
   frame_here = (here m floors).frame
 
   abbrev rest : List LowInstruction
-  rest = rest_below g m l floors (Call callee call) js id next
+  rest = rest_below g m l floors (Call callee call) js next
 
   -- the registers of the bytes that are left, of the result's address, and of the arguments
   abbrev bytes_left : VirtualRegister
@@ -91,16 +91,16 @@ module _ (g : Setting) (fit : IsFitting g) (m : MirState) (l : State) (floors : 
   stands_before : l ≡ before
   unfolding code_for
   stands_before =
-      begins_here g fit m l floors (Call callee call) js id next (call_code g.core g.mir (here m floors).frame callee.0 call) refl
+      begins_here g fit m l floors (Call callee call) js next (call_code g.core g.mir (here m floors).frame callee.0 call) refl
       ∙ ap (at l l.top.registers) (regroup result_front all_given_code charging entering rest)
 
   abbrev behind_call : MirState
-  behind_call = record m { rest = rest_above g m l floors (Call callee call) js id next }
+  behind_call = record m { rest = rest_above g m l floors (Call callee call) js next }
 
   -- the step above, by what is handed over
   stepped : (o : Option (List Handed)) → all_handed m.world (map view_given call.given) ≡ o → mir_step (managed g) m ≡ mir_called_with (managed g) callee.0 (view_receiver call.receiver) o behind_call
   unfolding execute
-  stepped o e = step_here g fit m l floors (Call callee call) js id next ∙ ap (λ o. mir_called_with (managed g) callee.0 (view_receiver call.receiver) o behind_call) e
+  stepped o e = step_here g fit m l floors (Call callee call) js next ∙ ap (λ o. mir_called_with (managed g) callee.0 (view_receiver call.receiver) o behind_call) e
 
   -- where the stack has room, the routine begins above
   pub step_begins : (given : List Handed) → all_handed m.world (map view_given call.given) ≡ Some given → nat_lt g.stack (m.charged + (managed g).charge callee.0) ≡ false → mir_step (managed g) m ≡ begun_above (managed g) callee.0 (view_receiver call.receiver) given behind_call
@@ -120,7 +120,7 @@ module _ (g : Setting) (fit : IsFitting g) (m : MirState) (l : State) (floors : 
   may_enter x there h room rows =
       let exists = room.fits.expanded.exists in
       let parameters = parameters_are g fit callee.0 x next.fine.0 there room.fits rows in
-      let given = given_length g fit m l floors (Call callee call) js id next call.given (parameter_rows g.core callee.0) spot.free next.fine.3.gives in
+      let given = given_length g fit m l floors (Call callee call) js next call.given (parameter_rows g.core callee.0) spot.free next.fine.3.gives in
       let space_left = room.space in
       let first : nat_lt (runtime + callee.0) (length g.low.routines) ≡ true = grind (arith, nat_tests) in
       let count : length (bytes_left ∷ spot.base ∷ bases) ≡ (routine_of g.low (runtime + callee.0)).parameters = ap (λ n. suc (suc n)) given ∙ two_more (length (parameter_rows g.core callee.0)) ∙ sym parameters in
@@ -139,7 +139,7 @@ module _ (g : Setting) (fit : IsFitting g) (m : MirState) (l : State) (floors : 
 
   -- what the code in front of the charge costs at most
   abbrev front_most : ℕ
-  front_most = 3 + all_most g fit m l floors (Call callee call) js id next call.given
+  front_most = 3 + all_most g fit m l floors (Call callee call) js next call.given
 
   -- as many registers as arguments
   givens_count : (xs : List Given) (free : VirtualRegister) → length (givens_in g.core (here m floors).frame xs free) ≡ length xs
@@ -153,28 +153,28 @@ module _ (g : Setting) (fit : IsFitting g) (m : MirState) (l : State) (floors : 
       let many = fit.program.number in
       let few = fit.program.few callee.0 (omega arith) in
       let rows = fit.program.parameters callee.0 (omega arith) in
-      let given = given_length g fit m l floors (Call callee call) js id next call.given (parameter_rows g.core callee.0) spot.free next.fine.3.gives in
+      let given = given_length g fit m l floors (Call callee call) js next call.given (parameter_rows g.core callee.0) spot.free next.fine.3.gives in
       let count = givens_count call.given spot.free in
       omega arith
 
   -- so the activation under way has been charged where something is given
-  pub given_paid : (length call.given ≡ 0) ⊎ (256 ≤ charged g fit m l floors (Call callee call) js id next)
+  pub given_paid : (length call.given ≡ 0) ⊎ (256 ≤ charged g fit m l floors (Call callee call) js next)
   given_paid = by call.given refl
     where
-      by : (xs : List Given) → call.given ≡ xs → (length call.given ≡ 0) ⊎ (256 ≤ charged g fit m l floors (Call callee call) js id next)
+      by : (xs : List Given) → call.given ≡ xs → (length call.given ≡ 0) ⊎ (256 ≤ charged g fit m l floors (Call callee call) js next)
       by [] none = inl (ap length none)
-      by (x ∷ xs) some = inr (heavy g fit m l floors (Call callee call) js id next (λ light. let clash = sym (ap length some) ∙ ap length light.0 in absurd (omega arith))).least
+      by (x ∷ xs) some = inr (heavy g fit m l floors (Call callee call) js next (λ light. let clash = sym (ap length some) ∙ ap length light.0 in absurd (omega arith))).least
 
   front_costs : (n : ℕ) → n ≤ 16 → front_most + n ≤ most_for_one * mir_cost (managed g) m
   front_costs n less = by given_paid
     where
-      by : (length call.given ≡ 0) ⊎ (256 ≤ charged g fit m l floors (Call callee call) js id next) → front_most + n ≤ most_for_one * mir_cost (managed g) m
-      by (inl none) = let cost = least g fit m l floors (Call callee call) js id next in omega arith
-      by (inr some) = let cost = least g fit m l floors (Call callee call) js id next in let few = few_given in omega arith
+      by : (length call.given ≡ 0) ⊎ (256 ≤ charged g fit m l floors (Call callee call) js next) → front_most + n ≤ most_for_one * mir_cost (managed g) m
+      by (inl none) = let cost = least g fit m l floors (Call callee call) js next in omega arith
+      by (inr some) = let cost = least g fit m l floors (Call callee call) js next in let few = few_given in omega arith
 
   -- ---- behind the arguments: error 202, or the routine begins
 
-  module _ (given : List Handed) (handed : all_handed m.world (map view_given call.given) ≡ Some given) (result : ResultGiven g fit m l floors next.stays before spot (all_given_code ++ (charging ++ (entering ∷ rest))) call.receiver) (args : AreGiven g fit m l floors (Call callee call) js id next (all_most g fit m l floors (Call callee call) js id next call.given) (at l result.h (all_given_code ++ (charging ++ (entering ∷ rest)))) result.h spot.free bases (charging ++ (entering ∷ rest)) (parameter_rows g.core callee.0) given) where
+  module _ (given : List Handed) (handed : all_handed m.world (map view_given call.given) ≡ Some given) (result : ResultGiven g fit m l floors next.stays before spot (all_given_code ++ (charging ++ (entering ∷ rest))) call.receiver) (args : AreGiven g fit m l floors (Call callee call) js next (all_most g fit m l floors (Call callee call) js next call.given) (at l result.h (all_given_code ++ (charging ++ (entering ∷ rest)))) result.h spot.free bases (charging ++ (entering ∷ rest)) (parameter_rows g.core callee.0) given) where
     abbrev at_charging : State
     at_charging = at l args.h (charging ++ (entering ∷ rest))
 
@@ -203,7 +203,7 @@ module _ (g : Setting) (fit : IsFitting g) (m : MirState) (l : State) (floors : 
     -- error 202 ends the program
     stack_over : nat_lt g.stack (m.charged + (managed g).charge callee.0) ≡ true → Comes g m l
     stack_over over =
-        let (x, there) = some_at g.mir.routines callee.0 next.fine.0 in
+        let (x, there) = there_is g.mir.routines callee.0 next.fine.0 in
         let a = next.stays.activation in
         let some = some_front in
         let behind : 0 < bytes_left.0 = omega arith in
@@ -214,7 +214,7 @@ module _ (g : Setting) (fit : IsFitting g) (m : MirState) (l : State) (floors : 
         let h = put args.h bytes_left n in
         let error_state = at l h (block_of g.low l.top.routine (error_block_of (here m floors).frame.bank StackOverflow).0) in
         let away : Goes g 1 3 at_charging error_state = subst (GoesTo g 1 3 l at_charging (entering ∷ rest)) (over_charged frame_here bytes_left n args.h behind test) (goes_straight g l charging (entering ∷ rest) args.h) in
-        let (k, ends, stands) = error_ends g fit floors m l next.stays StackOverflow h (rest_above g m l floors (Call callee call) js id next) in
+        let (k, ends, stands) = error_ends g fit floors m l next.stays StackOverflow h (rest_above g m l floors (Call callee call) js next) in
         record {
           to = k;
           goes = goes_within g 1 (most_for_one * mir_cost (managed g) m) l k (goes_then g 0 1 1 l at_charging k (omega arith) front_goes (goes_then g 1 5 1 at_charging error_state k (omega arith) away ends)) (front_costs 8 (omega arith));
@@ -224,7 +224,7 @@ module _ (g : Setting) (fit : IsFitting g) (m : MirState) (l : State) (floors : 
     -- the routine begins
     begins : length (parameter_rows g.core callee.0) ≡ parameters_of g.core callee.0 → nat_lt g.stack (m.charged + (managed g).charge callee.0) ≡ false → Begins g m l floors callee.0 call rest
     begins rows under =
-        let (x, there) = some_at g.mir.routines callee.0 next.fine.0 in
+        let (x, there) = there_is g.mir.routines callee.0 next.fine.0 in
         let a = next.stays.activation in
         let some = some_front in
         let behind : 0 < bytes_left.0 = omega arith in
@@ -265,7 +265,7 @@ module _ (g : Setting) (fit : IsFitting g) (m : MirState) (l : State) (floors : 
           goes = goes_within g 1 (begins_most g callee.0 call) l begun_state (goes_then g 0 1 1 l at_charging begun_state (omega arith) front_goes
               (goes_then g 1 1 1 at_charging entering_state begun_state (omega arith) on
               (goes_to g 1 entering_state entered_state begun_state words_are
-              (goes_to g 1 entering_state (act g.low g.placement entering (at l h rest)) entered_state (enters h may) (goes_one g l h entering rest))))) (let many = givens_count call.given spot.free in omega arith);
+              (goes_to g 1 entering_state (act g.low g.placement entering (at l h rest)) entered_state (enters h may) (goes_one g l h entering rest refl))))) (let many = givens_count call.given spot.free in omega arith);
           receives = subst (ResultGoes g floors (length m.callers) call.receiver (view_receiver call.receiver) _) (sym base_is) (result.receives _);
         }
       where
@@ -283,7 +283,7 @@ module _ (g : Setting) (fit : IsFitting g) (m : MirState) (l : State) (floors : 
     charged_by rows false under = inr (begins rows under)
 
   -- An error ends the program, or the routine is about to begin. The routine has a row for each of its parameters.
-  pub call_begins : length (parameter_rows g.core callee.0) ≡ parameters_of g.core callee.0 → Comes g m l ⊎ Begins g m l floors callee.0 call (rest_below g m l floors (Call callee call) js id next)
+  pub call_begins : length (parameter_rows g.core callee.0) ≡ parameters_of g.core callee.0 → Comes g m l ⊎ Begins g m l floors callee.0 call (rest_below g m l floors (Call callee call) js next)
   unfolding all_given_fit
   call_begins rows =
       let (low, fits, fits_receiver, typed) = next.fine in
@@ -291,10 +291,10 @@ module _ (g : Setting) (fit : IsFitting g) (m : MirState) (l : State) (floors : 
       let result = result_given g fit m l floors next.stays call.receiver (result_of (slice_get g.core.routines callee.0)) (all_given_code ++ (charging ++ (entering ∷ rest))) fits_receiver typed.receives home in
       let more = result.fits.more in
       by result (all_handed m.world (map view_given call.given)) refl
-      (all_given g fit m l floors (Call callee call) js id next call.given (parameter_rows g.core callee.0) spot.free result.h (charging ++ (entering ∷ rest)) fits typed.gives homes (omega arith) result.kept)
+      (all_given g fit m l floors (Call callee call) js next call.given (parameter_rows g.core callee.0) spot.free result.h (charging ++ (entering ∷ rest)) fits typed.gives homes (omega arith) result.kept)
     where
-      by : (result : ResultGiven g fit m l floors next.stays before spot (all_given_code ++ (charging ++ (entering ∷ rest))) call.receiver) (o : Option (List Handed)) → all_handed m.world (map view_given call.given) ≡ o → AllGivenTo g fit m l floors (Call callee call) js id next (all_most g fit m l floors (Call callee call) js id next call.given) (at l result.h (all_given_code ++ (charging ++ (entering ∷ rest)))) result.h spot.free bases (charging ++ (entering ∷ rest)) (parameter_rows g.core callee.0) o → Comes g m l ⊎ Begins g m l floors callee.0 call rest
+      by : (result : ResultGiven g fit m l floors next.stays before spot (all_given_code ++ (charging ++ (entering ∷ rest))) call.receiver) (o : Option (List Handed)) → all_handed m.world (map view_given call.given) ≡ o → AllGivenTo g fit m l floors (Call callee call) js next (all_most g fit m l floors (Call callee call) js next call.given) (at l result.h (all_given_code ++ (charging ++ (entering ∷ rest)))) result.h spot.free bases (charging ++ (entering ∷ rest)) (parameter_rows g.core callee.0) o → Comes g m l ⊎ Begins g m l floors callee.0 call rest
       by result (Some given) e args = charged_by given e result args rows (nat_lt g.stack (m.charged + (managed g).charge callee.0)) refl
       by result None e fails =
           let failed_from : Failed g fit m l floors next.stays 0 front_most before = record { h = fails.h; goes = goes_then g 0 0 0 before (at l result.h (all_given_code ++ (charging ++ (entering ∷ rest)))) _ (omega arith) result.goes fails.goes } in
-          inl (index_fails g fit m l floors js id (Call callee call) next 0 front_most before stands_before failed_from (front_costs 5 (omega arith)) (stepped None e))
+          inl (index_fails g fit m l floors js (Call callee call) next 0 front_most before stands_before failed_from (front_costs 5 (omega arith)) (stepped None e))

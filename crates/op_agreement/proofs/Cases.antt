@@ -110,18 +110,18 @@ dispatched_is c (pos (suc (suc (suc (suc (suc n)))))) t k m none nobody =
     rw (one, two, three) refl
 dispatched_is c (negsuc n) t k m none nobody = refl
 
-module _ (g : Setting) (fit : IsFitting g) (m : MirState) (l : State) (floors : ℕ → Floor) (is : List Instruction) (id : ℕ) where
+module _ (g : Setting) (fit : IsFitting g) (m : MirState) (l : State) (floors : ℕ → Floor) (is : List Instruction) where
   abbrev Stands_next : Instruction → Type 0
-  Stands_next i = Next g m l floors i is id
+  Stands_next i = Next g m l floors i is
 
   pub constant_comes : (to : TemporaryId) (n : _) (landing : _) → Stands_next (Act (Constant to n) landing) → Comes g m l
   unfolding code_for constant_code execute perform
   constant_comes to n landing next =
       let fits = next.fine.1 in
       let wraps = word_wraps _ n (number_is n fits) in
-      answered g fit m l floors (Act (Constant to n) landing) is id next (constant_code (register_of (here m floors).frame.bank to) n) to (gives n) refl refl (omega arith) (λ light. light) (behind_act next.on)
+      answered g fit m l floors (Act (Constant to n) landing) is next (constant_code (register_of (here m floors).frame.bank to) n) to (gives n) refl refl (omega arith) (λ light. light) (behind_act next.on)
       (constant (work_of (here m floors).frame.bank) (register_of (here m floors).frame.bank to) l.top.registers n fits)
-      (step_here g fit m l floors (Act (Constant to n) landing) is id next ∙ ap (λ z. record m { world = with_number to.0 z m.world; rest = rest_above g m l floors (Act (Constant to n) landing) is id next }) wraps)
+      (step_here g fit m l floors (Act (Constant to n) landing) is next ∙ ap (λ z. record m { world = with_number to.0 z m.world; rest = rest_above g m l floors (Act (Constant to n) landing) is next }) wraps)
 
   pub compute_comes : (c : Computation) (landing : _) → Stands_next (Act (Compute c) landing) → Comes g m l
   unfolding code_for execute action_fits
@@ -134,9 +134,9 @@ module _ (g : Setting) (fit : IsFitting g) (m : MirState) (l : State) (floors : 
       let some = computation_steps bank c words in
       let x = number_at m.world (left_of c).0 in
       let y = number_at m.world (right_of c).0 in
-      answered g fit m l floors (Act (Compute c) landing) is id next (computation_code bank c) (to_of c) (meant c x y) refl some (computation_short bank c) (λ light. light) (behind_act next.on)
+      answered g fit m l floors (Act (Compute c) landing) is next (computation_code bank c) (to_of c) (meant c x y) refl some (computation_short bank c) (λ light. light) (behind_act next.on)
       (computation_answers bank c l.top.registers x y words fits.apart (a.kept.temporaries (left_of c).0 fits.first) (a.kept.temporaries (right_of c).0 fits.second))
-      (step_here g fit m l floors (Act (Compute c) landing) is id next ∙ ap (λ w. record m { world = w; rest = rest_above g m l floors (Act (Compute c) landing) is id next }) (performed g.core c m.world))
+      (step_here g fit m l floors (Act (Compute c) landing) is next ∙ ap (λ w. record m { world = w; rest = rest_above g m l floors (Act (Compute c) landing) is next }) (performed g.core c m.world))
 
   -- ---- branches
 
@@ -153,8 +153,8 @@ module _ (g : Setting) (fit : IsFitting g) (m : MirState) (l : State) (floors : 
   pub jump_comes : (block : BlockId) → Stands_next (Jump block) → Comes g m l
   unfolding code_for outcome execute
   jump_comes block next =
-      turned g fit m l floors (Jump block) is id next (LowJump (target_of block) ∷ []) (Some block.0) refl refl (afford_light g fit m l floors (Jump block) is id next 1 (omega arith)) (λ e. absurd cc) (λ k e. target_same (here m floors).routine block k (some_same e) next.fine) (refl, λ r low. refl)
-      (step_here g fit m l floors (Jump block) is id next)
+      turned g fit m l floors (Jump block) is next (LowJump (target_of block) ∷ []) (Some block.0) refl refl (afford_light g fit m l floors (Jump block) is next 1 (omega arith)) (λ e. absurd cc) (λ k e. target_same (here m floors).routine block k (some_same e) next.fine) (refl, λ r low. refl)
+      (step_here g fit m l floors (Jump block) is next)
 
   pub when_comes : (t : TemporaryId) (block : BlockId) → Stands_next (When t block) → Comes g m l
   unfolding code_for true_code execute
@@ -162,10 +162,10 @@ module _ (g : Setting) (fit : IsFitting g) (m : MirState) (l : State) (floors : 
       let bank = (here m floors).frame.bank in
       let x = number_at m.world t.0 in
       let branches = branches_turn (work_of bank) (register_of bank t) l.top.registers x (reads (When t block) next t next.fine.0) third in
-      turned g fit m l floors (When t block) is id next (true_code (work_of bank) (register_of bank t) block) (where_true x block.0) refl refl (afford g fit m l floors (When t block) is id next (λ light. light) 2 (omega arith)) (λ e. behind_act next.on) (λ k e. target_same (here m floors).routine block k (true_target x block.0 k e) next.fine.1) (branches.when_true block)
-      (step_here g fit m l floors (When t block) is id next ∙ by (is_true x))
+      turned g fit m l floors (When t block) is next (true_code (work_of bank) (register_of bank t) block) (where_true x block.0) refl refl (afford g fit m l floors (When t block) is next (λ light. light) 2 (omega arith)) (λ e. behind_act next.on) (λ k e. target_same (here m floors).routine block k (true_target x block.0 k e) next.fine.1) (branches.when_true block)
+      (step_here g fit m l floors (When t block) is next ∙ by (is_true x))
     where
-      by : (b : Bool) → (if b then go_to (managed g) block.0 (record m { rest = rest_above g m l floors (When t block) is id next }) else record m { rest = rest_above g m l floors (When t block) is id next }) ≡ go_if (managed g) (if b then Some block.0 else None) (record m { rest = rest_above g m l floors (When t block) is id next })
+      by : (b : Bool) → (if b then go_to (managed g) block.0 (record m { rest = rest_above g m l floors (When t block) is next }) else record m { rest = rest_above g m l floors (When t block) is next }) ≡ go_if (managed g) (if b then Some block.0 else None) (record m { rest = rest_above g m l floors (When t block) is next })
       by true = refl
       by false = refl
 
@@ -175,10 +175,10 @@ module _ (g : Setting) (fit : IsFitting g) (m : MirState) (l : State) (floors : 
       let bank = (here m floors).frame.bank in
       let x = number_at m.world t.0 in
       let branches = branches_turn (work_of bank) (register_of bank t) l.top.registers x (reads (Unless t block) next t next.fine.0) third in
-      turned g fit m l floors (Unless t block) is id next (false_code (work_of bank) (register_of bank t) block) (where_false x block.0) refl refl (afford g fit m l floors (Unless t block) is id next (λ light. light) 2 (omega arith)) (λ e. behind_act next.on) (λ k e. target_same (here m floors).routine block k (false_target x block.0 k e) next.fine.1) (branches.when_false block)
-      (step_here g fit m l floors (Unless t block) is id next ∙ by (is_true x))
+      turned g fit m l floors (Unless t block) is next (false_code (work_of bank) (register_of bank t) block) (where_false x block.0) refl refl (afford g fit m l floors (Unless t block) is next (λ light. light) 2 (omega arith)) (λ e. behind_act next.on) (λ k e. target_same (here m floors).routine block k (false_target x block.0 k e) next.fine.1) (branches.when_false block)
+      (step_here g fit m l floors (Unless t block) is next ∙ by (is_true x))
     where
-      by : (b : Bool) → (if b then record m { rest = rest_above g m l floors (Unless t block) is id next } else go_to (managed g) block.0 (record m { rest = rest_above g m l floors (Unless t block) is id next })) ≡ go_if (managed g) (if b then None else Some block.0) (record m { rest = rest_above g m l floors (Unless t block) is id next })
+      by : (b : Bool) → (if b then record m { rest = rest_above g m l floors (Unless t block) is next } else go_to (managed g) block.0 (record m { rest = rest_above g m l floors (Unless t block) is next })) ≡ go_if (managed g) (if b then None else Some block.0) (record m { rest = rest_above g m l floors (Unless t block) is next })
       by true = refl
       by false = refl
 
@@ -189,14 +189,14 @@ module _ (g : Setting) (fit : IsFitting g) (m : MirState) (l : State) (floors : 
       let x = number_at m.world t.0 in
       let branches = branches_turn (work_of bank) (register_of bank t) l.top.registers x (reads (Switch t arms) next t next.fine.0) third in
       let some = some_last (arms_code (work_of bank) (register_of bank t) arms) (Const (work_of bank).first 0) in
-      let paid = heavy g fit m l floors (Switch t arms) is id next (λ light. light) in
+      let paid = heavy g fit m l floors (Switch t arms) is next (λ light. light) in
       let labels = paid.paid in
       let charge = paid.charge in
-      let cost = least g fit m l floors (Switch t arms) is id next in
+      let cost = least g fit m l floors (Switch t arms) is next in
       let short = switch_short (work_of bank) (register_of bank t) arms in
       let few : length (switch_code (work_of bank) (register_of bank t) arms) ≤ most_for_one * mir_cost (managed g) m = omega arith in
-      turned g fit m l floors (Switch t arms) is id next (switch_code (work_of bank) (register_of bank t) arms) (arm_for x (map view_arm arms)) refl some few (λ e. behind_act next.on) (λ k e. arm_target (here m floors).routine x arms k next.fine.2 e) (branches.by_label arms next.fine.1)
-      (step_here g fit m l floors (Switch t arms) is id next)
+      turned g fit m l floors (Switch t arms) is next (switch_code (work_of bank) (register_of bank t) arms) (arm_for x (map view_arm arms)) refl some few (λ e. behind_act next.on) (λ k e. arm_target (here m floors).routine x arms k next.fine.2 e) (branches.by_label arms next.fine.1)
+      (step_here g fit m l floors (Switch t arms) is next)
 
   pub dispatch_comes : (t : TemporaryId) (block : BlockId) → Stands_next (Dispatch t block) → Comes g m l
   unfolding code_for dispatch_code way_code execute
@@ -205,5 +205,5 @@ module _ (g : Setting) (fit : IsFitting g) (m : MirState) (l : State) (floors : 
       let x = number_at m.world t.0 in
       let plain = next.stays.plain in
       let branches = branches_turn (work_of bank) (register_of bank t) l.top.registers x (reads (Dispatch t block) next t next.fine.0) third in
-      turned g fit m l floors (Dispatch t block) is id next (dispatch_code (work_of bank) (register_of bank t) block) (way_for x block.0) refl refl (afford g fit m l floors (Dispatch t block) is id next (λ light. light) 6 (omega arith)) (λ e. behind_act next.on) (λ k e. way_target (here m floors).routine x block.0 k next.fine.1 e) (branches.by_reason block)
-      (step_here g fit m l floors (Dispatch t block) is id next ∙ dispatched_is (managed g) x t.0 block.0 (record m { rest = rest_above g m l floors (Dispatch t block) is id next }) plain.raised (name_in_nameless (m.world.temps (t.0 + 1)) (plain.temps (t.0 + 1))))
+      turned g fit m l floors (Dispatch t block) is next (dispatch_code (work_of bank) (register_of bank t) block) (way_for x block.0) refl refl (afford g fit m l floors (Dispatch t block) is next (λ light. light) 6 (omega arith)) (λ e. behind_act next.on) (λ k e. way_target (here m floors).routine x block.0 k next.fine.1 e) (branches.by_reason block)
+      (step_here g fit m l floors (Dispatch t block) is next ∙ dispatched_is (managed g) x t.0 block.0 (record m { rest = rest_above g m l floors (Dispatch t block) is next }) plain.raised (name_in_nameless (m.world.temps (t.0 + 1)) (plain.temps (t.0 + 1))))

@@ -1,12 +1,12 @@
 -- What is live lies within the stack or is a global, each apart from all others.
 use Rattle.std.proofs.Common.{◌≡◌, ◌≢◌, ◌≤◌, ◌<◌, ◌⊎◌, inl, inr, ℕ, suc, ◌+◌, List, [], ◌∷◌, length, refl, sym, ap, ap₂, ◌∙◌, subst, arith}
 use Rattle.std.specs.Prelude.{◌%◌, Bool, true, false, ◌&&◌, nat_eq}
-use Rattle.std.proofs.lemmas.Bool.{cases_lt}
+use Rattle.std.proofs.lemmas.Bool.{and_parts, cases_lt, eqb-true}
 use Rattle.std.proofs.lemmas.Bool.Decides.{nat_tests}
-use Rattle.op_constants.specs.Arranged.{IsSmall}
-use Rattle.op_constants.specs.Offsets.{size_in}
+use Rattle.op_constants.specs.Arranged.{IsSmall, IsUnit}
+use Rattle.op_constants.specs.Offsets.{size_in, alignment_in}
+use Rattle.op_core.proofs.OneType.{by_number}
 use Rattle.op_core.specs.Types.{is_same}
-use Rattle.op_core.specs.declared.ids.TypeId.{TypeId}
 use Rattle.op_expand.specs.Calls.{result_address}
 use Rattle.op_expand.specs.Homes.{home_at, is_one_root, offset_of}
 use Rattle.op_low.specs.State.{Caller}
@@ -18,6 +18,9 @@ use Rattle.op_agreement.specs.Chart.{Floor, Live, address_of, stored_offset, typ
 use Rattle.op_agreement.specs.Fitting.{DueStands, IsFitting}
 use Rattle.op_agreement.specs.Settings.{Apart, Setting, StoredAt, type_stored}
 use Rattle.op_agreement.specs.Stands.{CallersStand, IsFloor}
+use Rattle.op_constants.proofs.TypesArranged.{type_is_arranged}
+use Rattle.op_constants.proofs.Units.{coarser}
+use Rattle.op_core.specs.declared.ids.TypeId.{TypeId}
 
 -- ---- the locals of all activations lie one behind the other
 
@@ -73,10 +76,17 @@ floors_stand g fit floors values bound (c ∷ cs) (l ∷ ls) number address limi
 
 -- ---- what is live
 
--- it has a type whose values are small, stands by whole words, and may be read and written
+pub unit_below : (a : ℕ) → IsUnit a → a ≤ 4
+unit_below a (inl e) = omega arith
+unit_below a (inr (inl e)) = omega arith
+unit_below a (inr (inr e)) = omega arith
+
+-- it has a type whose values are small, stands at a multiple of the type's alignment, by whole words but where it is a global variable, which
+-- lies below the stack, and may be read and written
 pub record LiveStands (g : Setting) (floors : ℕ → Floor) (limit : ℕ) (h : Holder) : Type 0 where
   pub small : IsSmall g.core (type_held g.core floors h)
-  pub words : address_of g floors h % 4 ≡ 0
+  pub aligned : 0 < size_in g.core (type_held g.core floors h) → address_of g floors h % alignment_in g.core (type_held g.core floors h) ≡ 0
+  pub words : (address_of g floors h + size_in g.core (type_held g.core floors h) ≤ g.bottom) ⊎ (address_of g floors h % 4 ≡ 0)
   pub below : address_of g floors h + size_in g.core (type_held g.core floors h) ≤ limit
   pub readable : (x : ℕ) → address_of g floors h ≤ x → x < address_of g floors h + size_in g.core (type_held g.core floors h) → g.placement.rights.readable x ≡ true
   pub writable : (x : ℕ) → address_of g floors h ≤ x → x < address_of g floors h + size_in g.core (type_held g.core floors h) → g.placement.rights.writable x ≡ true
@@ -96,21 +106,37 @@ module _ (g : Setting) (fit : IsFitting g) (floors : ℕ → Floor) (depth limit
       let end : at + size ≤ limit = omega arith in
       (omega arith, end, λ x from to. fit.placed.readable x (omega arith) (omega arith), λ x from to. fit.placed.writable x (omega arith) (omega arith))
 
+  -- what stands by whole words stands at a multiple of any alignment
+  whole_aligned : (of : TypeId) (a : ℕ) → IsSmall g.core of → a % 4 ≡ 0 → a % alignment_in g.core of ≡ 0
+  whole_aligned of a small whole =
+      let unit = (type_is_arranged g.core fit.program.extents of small).unit in
+      coarser (alignment_in g.core of) 4 a unit (inr (inr refl)) (unit_below (alignment_in g.core of) unit) whole
+
   pub live_stands : (h : Holder) → Live g.core floors depth h → LiveStands g floors limit h
   live_stands (global v) live =
       let stands = fit.placed.globals v live in
       let below = stands.below in
       let bottom = bottom_below in
-      record { small = stands.type; words = stands.words; below = omega arith; readable = stands.readable; writable = stands.writable }
+      record { small = stands.type; aligned = stands.aligned; words = inl stands.below; below = omega arith; readable = stands.readable; writable = stands.writable }
   live_stands (local d v) (low, stored) =
       let offset = stored_offset (home_at (floors d).frame.homes (record { 0 = v })) in
       let (words, below, readable, writable) = stored_stands d (Local (record { 0 = v })) offset (address_of g floors (local d v)) (size_in g.core (type_held g.core floors (local d v))) low stored refl refl in
-      record { small = (s.each d low).fits.types (Local (record { 0 = v })) offset stored; words = words; below = below; readable = readable; writable = writable }
+      let small = (s.each d low).fits.types (Local (record { 0 = v })) offset stored in
+      record { small = small; aligned = λ some. whole_aligned (type_held g.core floors (local d v)) (address_of g floors (local d v)) small words; words = inr words; below = below; readable = readable; writable = writable }
   live_stands (temporary d of n) (low, stored) =
       let offset = offset_of g.core (Temporary of n) (floors d).frame.temporaries (floors d).frame.roots in
       let (words, below, readable, writable) = stored_stands d (Temporary of n) offset (address_of g floors (temporary d of n)) (size_in g.core of) low stored refl refl in
-      record { small = (s.each d low).fits.types (Temporary of n) offset stored; words = words; below = below; readable = readable; writable = writable }
+      let small = (s.each d low).fits.types (Temporary of n) offset stored in
+      record { small = small; aligned = λ some. whole_aligned of (address_of g floors (temporary d of n)) small words; words = inr words; below = below; readable = readable; writable = writable }
   live_stands (object name) live = absurd live
+
+  -- a variable of an activation lies by whole words, and not below the stack
+  pub local_stands : (d v : ℕ) → Live g.core floors depth (local d v) → (address_of g floors (local d v) % 4 ≡ 0) × (g.bottom ≤ address_of g floors (local d v))
+  local_stands d v (low, stored) =
+      let offset = stored_offset (home_at (floors d).frame.homes (record { 0 = v })) in
+      let (words, below, readable, writable) = stored_stands d (Local (record { 0 = v })) offset (address_of g floors (local d v)) (size_in g.core (type_held g.core floors (local d v))) low stored refl refl in
+      let lowest = s.lowest d low in
+      (words, omega arith)
 
   -- the word that counts finalization parts lies apart from it
   pub due_apart : (at : ℕ) → DueStands g at → (h : Holder) → Live g.core floors depth h → Apart (address_of g floors h) (size_in g.core (type_held g.core floors h)) at 4
@@ -176,24 +202,14 @@ module _ (g : Setting) (fit : IsFitting g) (floors : ℕ → Floor) (depth limit
 
 -- ---- what the test of holders tells
 
-same_number : (v u : ℕ) → nat_eq v u ≡ true → v ≡ u
-same_number v u e = grind (arith, nat_tests)
-
-both : (a b : Bool) → (a && b) ≡ true → (a ≡ true) × (b ≡ true)
-both true b e = (refl, e)
-both false b e = absurd cc
-
-same_type : (of to : TypeId) → is_same of to ≡ true → of ≡ to
-same_type of to e = ap (λ n. record { 0 = n }) (same_number of.0 to.0 e)
-
 pub same_is : (h k : Holder) → same_holder h k ≡ true → h ≡ k
-same_is (global v) (global u) e = ap (λ n. global n) (same_number v u e)
-same_is (local d v) (local f u) e = let (p, q) = both (nat_eq d f) (nat_eq v u) e in ap₂ (λ a b. local a b) (same_number d f p) (same_number v u q)
+same_is (global v) (global u) e = ap (λ n. global n) (eqb-true v u e)
+same_is (local d v) (local f u) e = let (p, q) = and_parts (nat_eq d f) (nat_eq v u) e in ap₂ (λ a b. local a b) (eqb-true d f p) (eqb-true v u q)
 same_is (temporary d of n) (temporary f to k) e =
-    let (pq, r) = both (nat_eq d f && is_same of to) (nat_eq n k) e in
-    let (p, q) = both (nat_eq d f) (is_same of to) pq in
-    ap₂ (λ a b. temporary a b n) (same_number d f p) (same_type of to q) ∙ ap (λ m. temporary f to m) (same_number n k r)
-same_is (object v) (object u) e = ap (λ n. object n) (same_number v u e)
+    let (pq, r) = and_parts (nat_eq d f && is_same of to) (nat_eq n k) e in
+    let (p, q) = and_parts (nat_eq d f) (is_same of to) pq in
+    ap₂ (λ a b. temporary a b n) (eqb-true d f p) (by_number of to q) ∙ ap (λ m. temporary f to m) (eqb-true n k r)
+same_is (object v) (object u) e = ap (λ n. object n) (eqb-true v u e)
 same_is (global v) (local d u) e = absurd cc
 same_is (global v) (temporary d of n) e = absurd cc
 same_is (global v) (object u) e = absurd cc

@@ -7,6 +7,20 @@ use Rattle.std.specs.Int.{w32, int_rem_euclid}
 use Rattle.std.proofs.lemmas.Bool.{cases_lt}
 use Rattle.std.proofs.lemmas.Bool.Decides.{nat_tests}
 use Rattle.std.proofs.lemmas.Int.{to_z_pos}
+use Rattle.op_agreement.proofs.Branching.{begins_here, has_of, step_here}
+use Rattle.op_agreement.proofs.Computing.{all_variables_kept, rest_above, rest_below, temporaries_kept}
+use Rattle.op_agreement.proofs.ErrorsEnd.{limit_above}
+use Rattle.op_agreement.proofs.Finding.{Found, closing_begun, closing_enters, ends_at, finds, finds_all}
+use Rattle.op_agreement.proofs.Following.{Comes}
+use Rattle.op_agreement.proofs.Going.{Goes, goes_from, goes_one, goes_then, goes_within, is_read, standing}
+use Rattle.op_agreement.proofs.Pricing.{afford}
+use Rattle.op_agreement.proofs.Standing.{Next, here, stays_closing}
+use Rattle.op_agreement.specs.Chart.{Floor}
+use Rattle.op_agreement.specs.Coding.{code_for}
+use Rattle.op_agreement.specs.Fitting.{IsFitting, closing_space}
+use Rattle.op_agreement.specs.Settings.{Setting, managed}
+use Rattle.op_agreement.specs.Stands.{ArePending, AreStillDue, CallersStand, Closes, ClosingGoesOn, HaveEnded, NoneCloses, Stands, StandsBy, Stays, closing_code, dues_in, lowest_rest}
+use Rattle.op_agreement.specs.Steps.{cost_going, counted, most_for_one}
 use Rattle.op_compute.specs.Bank.{register_of, scratch_of, work_of}
 use Rattle.op_compute.specs.Meaning.{IsWordOf}
 use Rattle.op_compute.specs.Straight.{at}
@@ -18,35 +32,21 @@ use Rattle.op_expand.specs.Calls.{closing_call, finalizations, finalizations_of,
 use Rattle.op_expand.specs.Closing.{finding_code}
 use Rattle.op_expand.specs.Frames.{returning_of}
 use Rattle.op_expand.specs.declared.frame.Returning.TheVariants.{Ending as TheEnd}
-use Rattle.op_low.specs.Machine.{act, exit, low_machine, step, step_by_ending}
+use Rattle.op_low.specs.Machine.{act, exit, low_machine, shows, step, step_by_ending}
 use Rattle.op_low.specs.State.{Caller, State, Ended}
 use Rattle.op_low.specs.declared.ids.VirtualRegister.{VirtualRegister}
-use Rattle.op_low.specs.declared.instruction.Instruction.TheVariants.{Const, Exit, Move}
 use Rattle.op_low.specs.declared.instruction.Instruction.{Instruction as LowInstruction}
+use Rattle.op_low.specs.declared.instruction.Instruction.TheVariants.{Const, Exit, Move}
 use Rattle.op_meaning.specs.Frames.{Pending, closing}
 use Rattle.op_meaning.specs.Machine.{low_eight}
 use Rattle.op_meaning.specs.World.{number_at, Running as GoingOn, Ended as HasEnded}
 use Rattle.op_mir.specs.Code.{Instr}
 use Rattle.op_mir.specs.Machine.{MirCaller, MirState, execute, mir_cost, mir_cost_by, mir_effort, mir_acted, mir_closed, mir_closes, mir_returned, mir_step, mir_step_by, mir_stepped}
 use Rattle.op_mir.specs.declared.ids.TemporaryId.{TemporaryId}
-use Rattle.op_mir.specs.declared.instruction.Instruction.TheVariants.{Return, Stop}
 use Rattle.op_mir.specs.declared.instruction.Instruction.{Instruction}
-use Rattle.op_simulation.specs.System.{run, spent}
+use Rattle.op_mir.specs.declared.instruction.Instruction.TheVariants.{Return, Stop}
 use Rattle.op_rv.specs.Operation.{signed}
-use Rattle.op_agreement.proofs.Branching.{begins_here, has_of, step_here}
-use Rattle.op_agreement.proofs.Computing.{all_variables_kept, rest_above, rest_below, temporaries_kept}
-use Rattle.op_agreement.proofs.ErrorsEnd.{limit_above}
-use Rattle.op_agreement.proofs.Finding.{Found, closing_begun, closing_enters, ends_at, finds, finds_all}
-use Rattle.op_agreement.proofs.Following.{Comes}
-use Rattle.op_agreement.proofs.Going.{Goes, goes_from, goes_one, goes_then, goes_within, standing}
-use Rattle.op_agreement.proofs.Pricing.{afford}
-use Rattle.op_agreement.proofs.Standing.{Next, here, stays_closing}
-use Rattle.op_agreement.specs.Chart.{Floor}
-use Rattle.op_agreement.specs.Coding.{code_for}
-use Rattle.op_agreement.specs.Fitting.{IsFitting, closing_space}
-use Rattle.op_agreement.specs.Settings.{Setting, managed}
-use Rattle.op_agreement.specs.Stands.{ArePending, AreStillDue, CallersStand, Closes, ClosingGoesOn, HaveEnded, NoneCloses, Stands, StandsBy, Stays, closing_code, dues_in, lowest_rest}
-use Rattle.op_agreement.specs.Steps.{cost_going, counted, most_for_one}
+use Rattle.op_simulation.specs.System.{run, spent, trace}
 
 module _ (g : Setting) where
   -- ---- what has ended stays
@@ -63,10 +63,14 @@ module _ (g : Setting) where
   unfolding spent
   stays_free m l status e = let none : cost_going g l l.ending ≡ 0 = ap (cost_going g l) e in omega arith
 
+  shows_nothing : (l : State) (status : ℕ) → l.ending ≡ Ended status → list_any is_read (trace (low_machine g.low g.placement) 1 l) ≡ false
+  unfolding trace shows
+  shows_nothing l status e = ap (λ x. list_any is_read (shows g.placement x l ++ [])) e
+
   pub ended_comes : (m : MirState) (l : State) (status : ℕ) → m.world.ending ≡ HasEnded status → HaveEnded status m l → Comes g m l
   ended_comes m l status e s = record {
     to = l;
-    goes = record { steps = 1; enough = omega arith; within = stays_free m l status s.ending; ends = stays_below l status s.ending };
+    goes = record { steps = 1; enough = omega arith; within = stays_free m l status s.ending; ends = stays_below l status s.ending; unread = shows_nothing l status s.ending };
     stands = subst (λ x. Stands g x l) (sym (stays_above m status e)) (subst (λ x. StandsBy g x m.frames m l) (sym e) s);
   }
 
@@ -91,7 +95,7 @@ module _ (g : Setting) where
       record {
         to = k;
         goes = goes_within g 1 (most_for_one * mir_cost (managed g) m) l k
-            (goes_from g 1 l (at l l.top.registers (Exit left ∷ s.rest)) k (standing g l (Exit left ∷ s.rest) s.running s.now) (goes_one g l l.top.registers (Exit left) s.rest)) (running_costs m ending);
+            (goes_from g 1 l (at l l.top.registers (Exit left ∷ s.rest)) k (standing g l (Exit left ∷ s.rest) s.running s.now) (goes_one g l l.top.registers (Exit left) s.rest refl)) (running_costs m ending);
         stands = subst (λ x. Stands g x k) (sym (closes_above m status ending frames s.raised s.pending)) (record { ending = ap (λ x. Ended x) s.told; output = s.output; errors = s.errors; input = s.input });
       }
 
@@ -179,14 +183,14 @@ module _ (g : Setting) (fit : IsFitting g) (closes : has_closing g.core ≡ true
       begun_by f status code rest after 4 told kept
       (finds_all g fit closes (closing_begun g l (ends_at l f rest) h []) refl bottom_here (length m.pending) h all s.due)
 
-module _ (g : Setting) (fit : IsFitting g) (m : MirState) (l : State) (floors : ℕ → Floor) (is : List Instruction) (id : ℕ) (next : Next g m l floors Return is id) where
+module _ (g : Setting) (fit : IsFitting g) (m : MirState) (l : State) (floors : ℕ → Floor) (is : List Instruction) (next : Next g m l floors Return is) where
   main_callers : (cs : List MirCaller) (ls : List Caller) (number address limit room charged : ℕ) → cs ≡ [] → CallersStand g floors m.world.memory m.world.bound cs ls number address limit room charged → number ≡ length g.core.routines
   main_callers [] [] number address limit room charged e s = s.0
   main_callers [] (l ∷ ls) number address limit room charged e s = absurd s
   main_callers (c ∷ cs) ls number address limit room charged e s = absurd cc
 
   abbrev main_behind : MirState
-  main_behind = record m { rest = rest_above g m l floors Return is id next }
+  main_behind = record m { rest = rest_above g m l floors Return is next }
 
   -- all finalization parts are due by then
   all_due : m.callers ≡ [] → AreStillDue g m → length m.pending ≡ length (finalizations g.core)
@@ -202,7 +206,7 @@ module _ (g : Setting) (fit : IsFitting g) (m : MirState) (l : State) (floors : 
   abbrev ending_by : Bool → List LowInstruction
   ending_by b = if b then Const (scratch_of (here m floors).frame.bank 0) 0 ∷ closing_call g.core (scratch_of (here m floors).frame.bank 0) ∷ Exit left ∷ [] else Const left 0 ∷ Exit left ∷ []
 
-  main_code : (b : Bool) → has_closing g.core ≡ b → m.callers ≡ [] → code_for g.core g.mir (here m floors).frame id Return ≡ ending_by b
+  main_code : (b : Bool) → has_closing g.core ≡ b → m.callers ≡ [] → code_for g.core g.mir (here m floors).frame Return ≡ ending_by b
   unfolding code_for
   main_code b closes none =
       let s = next.stays in
@@ -213,18 +217,18 @@ module _ (g : Setting) (fit : IsFitting g) (m : MirState) (l : State) (floors : 
 
   main_step : m.callers ≡ [] → mir_step (managed g) m ≡ record main_behind { frames = closing 0 ∷ [] }
   unfolding execute
-  main_step none = step_here g fit m l floors Return is id next ∙ ap (λ cs. mir_returned (managed g) cs main_behind) none ∙ ap (λ fs. mir_closes 0 fs main_behind) next.frames
+  main_step none = step_here g fit m l floors Return is next ∙ ap (λ cs. mir_returned (managed g) cs main_behind) none ∙ ap (λ fs. mir_closes 0 fs main_behind) next.frames
 
   -- without finalization parts the program is about to end
   main_ends : has_closing g.core ≡ false → m.callers ≡ [] → Comes g m l
   unfolding act
   main_ends closes none =
       let s = next.stays in
-      let rest = rest_below g m l floors Return is id next in
+      let rest = rest_below g m l floors Return is next in
       let k = at l (λ (r : ℕ). if nat_eq r 0 then 0 else l.top.registers r) (Exit left ∷ rest) in
       record {
         to = k;
-        goes = goes_from g 1 l (at l l.top.registers (Const left 0 ∷ Exit left ∷ rest)) k (begins_here g fit m l floors Return is id next (Const left 0 ∷ Exit left ∷ []) (main_code false closes none)) (goes_within g 1 (most_for_one * mir_cost (managed g) m) (at l l.top.registers (Const left 0 ∷ Exit left ∷ rest)) k (goes_one g l l.top.registers (Const left 0) (Exit left ∷ rest)) (running_costs g m next.ending));
+        goes = goes_from g 1 l (at l l.top.registers (Const left 0 ∷ Exit left ∷ rest)) k (begins_here g fit m l floors Return is next (Const left 0 ∷ Exit left ∷ []) (main_code false closes none)) (goes_within g 1 (most_for_one * mir_cost (managed g) m) (at l l.top.registers (Const left 0 ∷ Exit left ∷ rest)) k (goes_one g l l.top.registers (Const left 0) (Exit left ∷ rest) refl) (running_costs g m next.ending));
         stands = subst (λ x. Stands g x k) (sym (main_step none)) (subst (λ e. StandsBy g e (closing 0 ∷ []) (record main_behind { frames = closing 0 ∷ [] }) k) (sym next.ending) (inl (record {
           running = refl;
           raised = s.plain.raised;
@@ -242,18 +246,18 @@ module _ (g : Setting) (fit : IsFitting g) (m : MirState) (l : State) (floors : 
   main_closes : has_closing g.core ≡ true → m.callers ≡ [] → AreStillDue g m → Comes g m l
   unfolding act
   main_closes closes none due =
-      let rest = rest_below g m l floors Return is id next in
+      let rest = rest_below g m l floors Return is next in
       let status = scratch_of (here m floors).frame.bank 0 in
       let f = λ (r : ℕ). if nat_eq r status.0 then 0 else l.top.registers r in
       let code = closing_call g.core status ∷ Exit left ∷ rest in
       let kept : (r : ℕ) → r < (here m floors).frame.bank.scratch → f r ≡ l.top.registers r = λ r low. let t : nat_eq r status.0 ≡ false = grind (arith, nat_tests) in ap (λ b. if b then 0 else l.top.registers r) t in
       let zero : f status.0 % 2 ^ 8 ≡ 0 = let t : nat_eq status.0 status.0 ≡ true = grind (arith, nat_tests) in ap (λ b. (if b then 0 else l.top.registers status.0) % 2 ^ 8) t in
-      let begun = begins_last g fit closes m l floors next.stays f status 0 (Exit left ∷ rest) (rest_above g m l floors Return is id next) (all_due none due) zero kept in
+      let begun = begins_last g fit closes m l floors next.stays f status 0 (Exit left ∷ rest) (rest_above g m l floors Return is next) (all_due none due) zero kept in
       record {
         to = begun.to;
-        goes = goes_from g 1 l (at l l.top.registers (Const status 0 ∷ code)) begun.to (begins_here g fit m l floors Return is id next (ending_by true) (main_code true closes none))
+        goes = goes_from g 1 l (at l l.top.registers (Const status 0 ∷ code)) begun.to (begins_here g fit m l floors Return is next (ending_by true) (main_code true closes none))
             (goes_within g 1 (most_for_one * mir_cost (managed g) m) (at l l.top.registers (Const status 0 ∷ code)) begun.to
-            (goes_then g 1 1 1 (at l l.top.registers (Const status 0 ∷ code)) (at l f code) begun.to (omega arith) (goes_one g l l.top.registers (Const status 0) code) begun.goes) (few_cost g 28 m next.ending (omega arith)));
+            (goes_then g 1 1 1 (at l l.top.registers (Const status 0 ∷ code)) (at l f code) begun.to (omega arith) (goes_one g l l.top.registers (Const status 0) code refl) begun.goes) (few_cost g 28 m next.ending (omega arith)));
         stands = subst (λ x. Stands g x begun.to) (sym (main_step none)) (subst (λ e. StandsBy g e (closing 0 ∷ []) (record main_behind { frames = closing 0 ∷ [] }) begun.to) (sym next.ending) (inr begun.goes_on));
       }
 
@@ -279,9 +283,9 @@ low_eight_is word n is = by (cases_lt word 2147483648) ∙ ap (λ z. unsigned_ab
         let rest : 256 - 1 - (4294967296 - suc word) % 256 ≡ word % 256 = omega arith in
         sym (ap (λ z. unsigned_abs (int_rem_euclid z (pos 256))) negative ∙ rest)
 
-module _ (g : Setting) (fit : IsFitting g) (m : MirState) (l : State) (floors : ℕ → Floor) (is : List Instruction) (id : ℕ) (t : TemporaryId) (next : Next g m l floors (Stop t) is id) where
+module _ (g : Setting) (fit : IsFitting g) (m : MirState) (l : State) (floors : ℕ → Floor) (is : List Instruction) (t : TemporaryId) (next : Next g m l floors (Stop t) is) where
   abbrev stop_behind : MirState
-  stop_behind = record m { rest = rest_above g m l floors (Stop t) is id next }
+  stop_behind = record m { rest = rest_above g m l floors (Stop t) is next }
 
   abbrev status_register : VirtualRegister
   status_register = register_of (here m floors).frame.bank t
@@ -292,13 +296,13 @@ module _ (g : Setting) (fit : IsFitting g) (m : MirState) (l : State) (floors : 
   abbrev stop_by : Bool → List LowInstruction
   stop_by b = if b then closing_call g.core (register_of (here m floors).frame.bank t) ∷ [] else Move left (register_of (here m floors).frame.bank t) ∷ Exit left ∷ []
 
-  stop_code_is : (b : Bool) → has_closing g.core ≡ b → code_for g.core g.mir (here m floors).frame id (Stop t) ≡ stop_by b
+  stop_code_is : (b : Bool) → has_closing g.core ≡ b → code_for g.core g.mir (here m floors).frame (Stop t) ≡ stop_by b
   unfolding code_for
   stop_code_is b closes = ap stop_by closes
 
   stop_step : mir_step (managed g) m ≡ record stop_behind { frames = closing status_told ∷ [] }
   unfolding execute
-  stop_step = step_here g fit m l floors (Stop t) is id next ∙ ap (λ fs. mir_closes status_told fs stop_behind) next.frames
+  stop_step = step_here g fit m l floors (Stop t) is next ∙ ap (λ fs. mir_closes status_told fs stop_behind) next.frames
 
   status_there : l.top.registers status_register.0 % 2 ^ 8 ≡ status_told
   status_there = low_eight_is (l.top.registers status_register.0) (number_at m.world t.0) (next.stays.activation.kept.temporaries t.0 (has_of (here m floors).routine t next.fine))
@@ -307,12 +311,12 @@ module _ (g : Setting) (fit : IsFitting g) (m : MirState) (l : State) (floors : 
   unfolding act
   stop_ends closes =
       let s = next.stays in
-      let rest = rest_below g m l floors (Stop t) is id next in
+      let rest = rest_below g m l floors (Stop t) is next in
       let h = λ (x : ℕ). if nat_eq x 0 then l.top.registers status_register.0 else l.top.registers x in
       let k = at l h (Exit left ∷ rest) in
       record {
         to = k;
-        goes = goes_from g 1 l (at l l.top.registers (Move left status_register ∷ Exit left ∷ rest)) k (begins_here g fit m l floors (Stop t) is id next (Move left status_register ∷ Exit left ∷ []) (stop_code_is false closes)) (goes_within g 1 (most_for_one * mir_cost (managed g) m) (at l l.top.registers (Move left status_register ∷ Exit left ∷ rest)) k (goes_one g l l.top.registers (Move left status_register) (Exit left ∷ rest)) (running_costs g m next.ending));
+        goes = goes_from g 1 l (at l l.top.registers (Move left status_register ∷ Exit left ∷ rest)) k (begins_here g fit m l floors (Stop t) is next (Move left status_register ∷ Exit left ∷ []) (stop_code_is false closes)) (goes_within g 1 (most_for_one * mir_cost (managed g) m) (at l l.top.registers (Move left status_register ∷ Exit left ∷ rest)) k (goes_one g l l.top.registers (Move left status_register) (Exit left ∷ rest) refl) (running_costs g m next.ending));
         stands = subst (λ x. Stands g x k) (sym stop_step) (subst (λ e. StandsBy g e (closing status_told ∷ []) (record stop_behind { frames = closing status_told ∷ [] }) k) (sym next.ending) (inl (record {
           running = refl;
           raised = s.plain.raised;
@@ -328,13 +332,13 @@ module _ (g : Setting) (fit : IsFitting g) (m : MirState) (l : State) (floors : 
 
   stop_closes : has_closing g.core ≡ true → Comes g m l
   stop_closes closes =
-      let rest = rest_below g m l floors (Stop t) is id next in
-      let begun = begins_anywhere g fit closes m l floors next.stays l.top.registers status_register status_told rest (rest_above g m l floors (Stop t) is id next) status_there (λ r low. refl) in
+      let rest = rest_below g m l floors (Stop t) is next in
+      let begun = begins_anywhere g fit closes m l floors next.stays l.top.registers status_register status_told rest (rest_above g m l floors (Stop t) is next) status_there (λ r low. refl) in
       let few = (fit.closing closes).few in
       record {
         to = begun.to;
-        goes = goes_from g 1 l (at l l.top.registers (closing_call g.core status_register ∷ rest)) begun.to (begins_here g fit m l floors (Stop t) is id next (stop_by true) (stop_code_is true closes))
-            (goes_within g 1 (most_for_one * mir_cost (managed g) m) (at l l.top.registers (closing_call g.core status_register ∷ rest)) begun.to begun.goes (afford g fit m l floors (Stop t) is id next (λ light. light) (23 + (4 + 2 * length (finalizations g.core))) (omega arith)));
+        goes = goes_from g 1 l (at l l.top.registers (closing_call g.core status_register ∷ rest)) begun.to (begins_here g fit m l floors (Stop t) is next (stop_by true) (stop_code_is true closes))
+            (goes_within g 1 (most_for_one * mir_cost (managed g) m) (at l l.top.registers (closing_call g.core status_register ∷ rest)) begun.to begun.goes (afford g fit m l floors (Stop t) is next (λ light. light) (23 + (4 + 2 * length (finalizations g.core))) (omega arith)));
         stands = subst (λ x. Stands g x begun.to) (sym stop_step) (subst (λ e. StandsBy g e (closing status_told ∷ []) (record stop_behind { frames = closing status_told ∷ [] }) begun.to) (sym next.ending) (inr begun.goes_on));
       }
 

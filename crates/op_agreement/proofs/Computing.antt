@@ -7,7 +7,7 @@ use Rattle.op_compute.specs.Bank.{register_of, work_of}
 use Rattle.op_compute.specs.Meaning.{AreKept as KeepsAll, Gives, IsWordOf}
 use Rattle.op_compute.specs.Straight.{at}
 use Rattle.op_compute.specs.Turning.{AreAllKept}
-use Rattle.op_constants.specs.Literals.{literals_in}
+use Rattle.op_constants.specs.Literals.{literals_of}
 use Rattle.op_low.specs.State.{State}
 use Rattle.op_low.specs.declared.instruction.Instruction.{Instruction as LowInstruction}
 use Rattle.op_meaning.specs.Values.{Value, number, number_in}
@@ -67,15 +67,15 @@ nameless_set to n temps are t = by (nat_eq t to)
 
 -- ---- what stands behind the next instruction
 
-module _ (g : Setting) (m : MirState) (l : State) (floors : ℕ → Floor) (i : Instruction) (is : List Instruction) (id : ℕ) (next : Next g m l floors i is id) where
+module _ (g : Setting) (m : MirState) (l : State) (floors : ℕ → Floor) (i : Instruction) (is : List Instruction) (next : Next g m l floors i is) where
   abbrev pub rest_above : List Instr
   rest_above = map (view_instruction g.core (here m floors).number) is
 
   abbrev pub rest_below : List LowInstruction
-  rest_below = code_of g.core g.mir (here m floors).frame (here m floors).number (id + literals_in g.core (here m floors).number i) is
+  rest_below = code_of g.core g.mir (here m floors).frame (literals_of g.core g.mir) is
 
   pub rest_stands : AreFine g.core g.mir (here m floors).number (here m floors).routine is → Position g (here m floors) rest_above rest_below
-  rest_stands fine = record { is = is; id = id + literals_in g.core (here m floors).number i; above = refl; below = refl; literals = next.others; fine = fine; homes = next.more }
+  rest_stands fine = record { is = is; above = refl; below = refl; literals = next.others; fine = fine; homes = next.more }
 
   -- a temporary has become a number
   pub number_stands : (to : TemporaryId) (n : ℤ) (h : ℕ → ℕ) → AreFine g.core g.mir (here m floors).number (here m floors).routine is → Gives (work_of (here m floors).frame.bank) (register_of (here m floors).frame.bank to) l.top.registers h n → Stands g (record m { world = with_number to.0 n m.world; rest = rest_above }) (at l h rest_below)

@@ -21,11 +21,11 @@ use Rattle.op_meaning.specs.World.{value_at, with_value}
 use Rattle.op_mir.specs.Code.{Instr}
 use Rattle.op_mir.specs.Machine.{MirState}
 use Rattle.op_mir.specs.Plain.{IsPlainWorld}
-use Rattle.op_rt_text.proofs.CopyRun.{byte_from, length-bytes_from}
 use Rattle.op_rt_text.specs.Running.{Copyable}
-use Rattle.op_rv.proofs.Memory.{with_bytes-outside, with_bytes-within}
+use Rattle.op_rv.proofs.Memory.{byte_from, length-bytes_from, with_bytes-outside, with_bytes-within}
 use Rattle.op_rv.specs.State.{bytes_from, with_bytes}
-use Rattle.op_agreement.proofs.Aligning.{leads_apart, part_aligned}
+use Rattle.op_constants.proofs.Units.{coarser}
+use Rattle.op_agreement.proofs.Aligning.{leads_apart, part_aligned, part_coarser}
 use Rattle.op_agreement.proofs.Charting.{live_apart, live_stands, same_is}
 use Rattle.op_agreement.proofs.Memory.{place_stands, some_size}
 use Rattle.op_agreement.proofs.Standing.{SameVariables, Temporaries, here, kept_registers}
@@ -84,13 +84,16 @@ module _ (g : Setting) (fit : IsFitting g) (m : MirState) (l : State) (floors : 
           by_parts (ap (address_of g floors) same) (leads_apart (arrangement_of g.core (type_held g.core floors q.holder)) (arrangement_of g.core of) q.path p.path one.distance other.distance whole.arranged one.leads leads) part.size
       by false e = by_holders (live_apart g fit floors (length m.callers) l.limit (floors_here g fit floors m l s) (limit_here g fit floors m l s) q.holder p.holder e one.live other.live)
 
-  -- what is copied by words stands by whole words
-  pub place_whole : (q : Place) (a : ℕ) → (is : At q a) → a ≡ address_of g floors q.holder + is.distance → by_words g.core of ≡ true → a % 4 ≡ 0
-  place_whole q a is same words =
+  -- what is copied by words stands by whole words, if it has bytes
+  pub place_whole : (q : Place) (a : ℕ) → (is : At q a) → 0 < size → a ≡ address_of g floors q.holder + is.distance → by_words g.core of ≡ true → a % 4 ≡ 0
+  place_whole q a is some same words =
       let stands = live_stands g fit floors (length m.callers) l.limit (floors_here g fit floors m l s) (limit_here g fit floors m l s) q.holder is.live in
       let four : alignment_in g.core of ≡ 4 = grind (arith, nat_tests) in
       let far = subst (λ n. is.distance % n ≡ 0) four (part_aligned g.core fit.program.extents fit.program.first_type (type_held g.core floors q.holder) of q.path is.distance stands.small small is.leads) in
-      let near = stands.words in
+      let less = subst (λ n. n ≤ alignment_in g.core (type_held g.core floors q.holder)) four (part_coarser g.core fit.program.extents fit.program.first_type (type_held g.core floors q.holder) of q.path is.distance stands.small small is.leads) in
+      let unit = (type_is_arranged g.core fit.program.extents (type_held g.core floors q.holder) stands.small).unit in
+      let inside = within q a is in
+      let near = coarser 4 (alignment_in g.core (type_held g.core floors q.holder)) (address_of g floors q.holder) (inr (inr refl)) unit less (stands.aligned (omega arith)) in
       omega arith
 
   -- and takes whole words
@@ -105,7 +108,7 @@ module _ (g : Setting) (fit : IsFitting g) (m : MirState) (l : State) (floors : 
     all_whole words =
         let from = place_stands g fit m l floors s q of a one small some in
         let to = place_stands g fit m l floors s p of b other small some in
-        (place_whole q a from.is_at from.same words, place_whole p b to.is_at to.same words, size_whole words)
+        (place_whole q a from.is_at some from.same words, place_whole p b to.is_at some to.same words, size_whole words)
 
     -- so the one may be copied to the other
     pub copyable : Copyable g.placement l b a size

@@ -1,8 +1,8 @@
 -- The code that copies bytes copies them: none, few one by one, and more by a run-time routine.
-use Rattle.std.proofs.Common.{◌≡◌, ◌≢◌, ◌≤◌, ◌<◌, ◌⊎◌, inl, inr, ℕ, zero, suc, ◌+◌, ◌-◌, ◌*◌, List, [], ◌∷◌, ◌++◌, None, refl, sym, ap, ap₂, ◌∙◌, subst, arith, append_assoc, get_or}
+use Rattle.std.proofs.Common.{◌≡◌, ◌≢◌, ◌≤◌, ◌<◌, ◌⊎◌, inl, inr, ℕ, zero, suc, ◌+◌, ◌*◌, List, [], ◌∷◌, ◌++◌, None, refl, sym, ap, ap₂, ◌∙◌, subst, arith, append_assoc}
 use Rattle.std.specs.Prelude.{◌^◌, ◌%◌, pos, Bool, true, false, ◌&&◌, nat_eq, nat_lt, slice_index, if◌then◌else◌}
 use Rattle.std.specs.Int.{bytes_low_first}
-use Rattle.std.proofs.lemmas.Bool.{cases_lt, cond-true}
+use Rattle.std.proofs.lemmas.Bool.{cond-true}
 use Rattle.std.proofs.lemmas.Bool.Decides.{nat_tests}
 use Rattle.op_compute.proofs.Registers.{put_lower, put_other, put_same}
 use Rattle.op_compute.specs.Straight.{at, put}
@@ -15,47 +15,15 @@ use Rattle.op_low.specs.declared.instruction.Call.{Call as Operands}
 use Rattle.op_low.specs.declared.instruction.Instruction.TheVariants.{Call, Const, Load, Store}
 use Rattle.op_low.specs.declared.instruction.Instruction.{Instruction}
 use Rattle.op_rt_text.proofs.Contracts.{bytes_are_copied, words_are_copied}
-use Rattle.op_rt_text.proofs.CopyRun.{Moved, byte_from, length-bytes_from, moved_is, unit_byte, unit_word}
+use Rattle.op_rt_text.proofs.CopyRun.{Moved, moved_is, moved_on, moved_unit, unit_byte, unit_word}
 use Rattle.op_rt_text.specs.Names.{call, routine_id}
 use Rattle.op_rt_text.specs.Running.{Allowed, Called, Copies, Copyable, HasRoom, HasRuntime}
-use Rattle.op_rv.proofs.Memory.{with_bytes-outside, with_bytes-within}
 use Rattle.op_rv.specs.State.{bytes_from, with_bytes}
 use Rattle.op_rv.specs.Step.{can_access, load_size_of, load_value, offset_from, store_size_of}
 use Rattle.op_agreement.proofs.Elements.{KeptBelow}
 use Rattle.op_agreement.proofs.Going.{Goes, goes_fewer, goes_from, goes_none, goes_one, goes_then, goes_to, goes_within, goes_path}
 use Rattle.op_agreement.proofs.Memory.{may_access}
 use Rattle.op_agreement.specs.Settings.{Setting}
-
--- ---- memory
-
--- what is stored from a load
-moved_unit : (memory : ℕ → ℕ) (t f n : ℕ) → Moved memory (with_bytes memory t (bytes_from memory f n)) t f n
-moved_unit memory t f n =
-    let size = length-bytes_from memory f n in
-    record {
-      within = λ j before.
-          let there : t + j - t ≡ j = omega arith in
-          with_bytes-within memory t (bytes_from memory f n) (t + j) (omega arith) (omega arith)
-          ∙ ap (λ i. get_or (bytes_from memory f n) i 0) there
-          ∙ byte_from memory f n j before;
-      outside = λ x apart. with_bytes-outside memory t (bytes_from memory f n) x (λ from before. apart from (omega arith));
-    }
-
--- a copy in two parts, the first bytes first; none of the source is changed before it is copied
-moved_on : (memory middle after : ℕ → ℕ) (t f n k : ℕ) → (f + (n + k) ≤ t) ⊎ (t ≤ f) → Moved memory middle t f n → Moved middle after (t + n) (f + n) k → Moved memory after t f (n + k)
-moved_on memory middle after t f n k apart first second =
-    record { within = λ j before. by j before (cases_lt j n); outside = λ x out. second.outside x (λ from under. out (omega arith) (omega arith)) ∙ first.outside x (λ from under. out from (omega arith)) }
-  where
-    kept_source : (f + (n + k) ≤ t) ⊎ (t ≤ f) → (j : ℕ) → n ≤ j → j < n + k → t ≤ f + j → f + j < t + n → ⊥
-    kept_source (inl lower) j late before from under = omega arith
-    kept_source (inr upper) j late before from under = omega arith
-
-    by : (j : ℕ) → j < n + k → (j < n) ⊎ (n ≤ j) → after (t + j) ≡ memory (f + j)
-    by j before (inl early) = second.outside (t + j) (λ from under. omega arith) ∙ first.within j early
-    by j before (inr late) =
-        let there : t + n + (j - n) ≡ t + j = omega arith in
-        let source : f + n + (j - n) ≡ f + j = omega arith in
-        ap after (sym there) ∙ second.within (j - n) (omega arith) ∙ ap middle source ∙ first.outside (f + j) (kept_source apart j late before)
 
 -- ---- units
 
@@ -131,12 +99,12 @@ module _ (g : Setting) (l : State) (limit : l.limit ≤ 2 ^ 32) (words : Bool) (
       let loaded : h1 target.free.0 ≡ v = put_same h target.free v in
       let first : Goes g 1 1 (at m h (loads ∷ stores ∷ rest)) (at m h1 (stores ∷ rest)) = goes_to g 1 (at m h (loads ∷ stores ∷ rest)) (act g.low g.placement loads (at m h (stores ∷ rest))) (at m h1 (stores ∷ rest))
       (ap (λ x. load g.placement (unit_load words) target.free x (at m h (stores ∷ rest))) from_at ∙ cond-true (can_access (usable g.placement.rights.readable (at m h (stores ∷ rest))) a (load_size_of (unit_load words))) (keep target.free v (at m h (stores ∷ rest))) (bad (at m h (stores ∷ rest))) can_load)
-      (goes_one g m h loads (stores ∷ rest)) in
+      (goes_one g m h loads (stores ∷ rest) refl) in
       let second : Goes g 1 1 (at m h1 (stores ∷ rest)) (having l h1 rest (with_bytes memory b (bytes_from memory a (unit_of words)))) = goes_to g 1 (at m h1 (stores ∷ rest)) (act g.low g.placement stores (at m h1 rest)) (having l h1 rest (with_bytes memory b (bytes_from memory a (unit_of words))))
       (ap₂ (λ w x. store g.placement (unit_store words) w x (at m h1 rest)) loaded to_at
       ∙ cond-true (can_access (usable g.placement.rights.writable (at m h1 rest)) b (store_size_of (unit_store words))) (having l h1 rest (with_bytes memory b (bytes_low_first 0 (store_size_of (unit_store words)) v))) (bad (at m h1 rest)) can_store
       ∙ ap (λ bs. having l h1 rest (with_bytes memory b bs)) (unit_is words memory a bytes))
-      (goes_one g m h1 stores rest) in
+      (goes_one g m h1 stores rest refl) in
       goes_then g 1 1 2 (at m h (loads ∷ stores ∷ rest)) (at m h1 (stores ∷ rest)) (having l h1 rest (with_bytes memory b (bytes_from memory a (unit_of words)))) (omega arith) first second
 
   -- so many units are copied, and only the register that is free changes
@@ -219,7 +187,7 @@ module _ (g : Setting) (l : State) (limit : l.limit ≤ 2 ^ 32) (words : Bool) (
   unfolding act put
   none_goes none =
       subst (λ n. Goes g 1 1 (at l f (bytes_code words n source target ++ rest)) (at l (put f target.free 0) rest)) (sym none)
-      (goes_one g l f (Const target.free 0) rest)
+      (goes_one g l f (Const target.free 0) rest refl)
 
   module _ (a b : ℕ) (some : 0 < size) (source_base : source.base.0 < target.free.0) (target_base : target.base.0 < target.free.0) (from_is : f source.base.0 + source.offset ≡ a) (to_is : f target.base.0 + target.offset ≡ b) (can : Copyable g.placement l b a size) (whole : words ≡ true → (a % 4 ≡ 0) × (b % 4 ≡ 0) × (size % 4 ≡ 0)) where
     abbrev Copied : List Instruction → Type 0
@@ -278,11 +246,11 @@ module _ (g : Setting) (l : State) (limit : l.limit ≤ 2 ^ 32) (words : Bool) (
           let it = copied_by g words before_call operands rest b a size (record { target = can.target; source = can.source; bytes = can.bytes; apart = can.apart }) whole call_stands in
           let h = put counted target.free it.value in
           let code = Const target.free size ∷ call (copy_number words) arguments target.free ∷ [] in
-          let second : Goes g 0 (192 + 6 * size) before_call (having l h rest it.memory) = goes_path g it.steps 0 (192 + 6 * size) before_call (having l h rest it.memory) (omega arith) it.path in (
+          let second : Goes g 0 (192 + 6 * size) before_call (having l h rest it.memory) = goes_path g it.steps 0 (192 + 6 * size) before_call (having l h rest it.memory) (omega arith) it.path refl in (
             h,
             it.memory,
             goes_within g 1 (copy_most size) (at l f (code ++ rest)) (having l h rest it.memory)
-                (goes_then g 1 0 1 (at l f (code ++ rest)) before_call (having l h rest it.memory) (omega arith) (goes_one g l f (Const target.free size) (call (copy_number words) arguments target.free ∷ rest)) second) (omega arith),
+                (goes_then g 1 0 1 (at l f (code ++ rest)) before_call (having l h rest it.memory) (omega arith) (goes_one g l f (Const target.free size) (call (copy_number words) arguments target.free ∷ rest) refl) second) (omega arith),
             λ r low. put_lower counted target.free it.value r low ∙ put_lower f target.free size r low,
             it.copied,
           )

@@ -48,60 +48,60 @@ use Rattle.op_agreement.specs.Typed.{AreFine}
 
 module _ (g : Setting) (fit : IsFitting g) (m : MirState) (l : State) (ending : m.world.ending ≡ GoingOn) (frames : m.frames ≡ []) (floors : ℕ → Floor) (s : Stays g floors m l) (due : AreStillDue g m) where
   -- the next instruction of a position
-  next_of : (i : Instruction) (is : List Instruction) (id : ℕ) → m.rest ≡ map (view_instruction g.core (here m floors).number) (i ∷ is) → l.top.now ≡ code_of g.core g.mir (here m floors).frame (here m floors).number id (i ∷ is) → AreLiterals (literals_of g.core g.mir) id (flat_map (instruction_literals g.core (here m floors).number) (i ∷ is)) → AreFine g.core g.mir (here m floors).number (here m floors).routine (i ∷ is) → HaveHomes g.core (here m floors).number (here m floors).frame (i ∷ is) → Next g m l floors i is id
+  next_of : (i : Instruction) (is : List Instruction) → m.rest ≡ map (view_instruction g.core (here m floors).number) (i ∷ is) → l.top.now ≡ code_of g.core g.mir (here m floors).frame (literals_of g.core g.mir) (i ∷ is) → AreLiterals (literals_of g.core g.mir) (flat_map (instruction_literals g.core (here m floors).number) (i ∷ is)) → AreFine g.core g.mir (here m floors).number (here m floors).routine (i ∷ is) → HaveHomes g.core (here m floors).number (here m floors).frame (i ∷ is) → Next g m l floors i is
   unfolding code_for
-  next_of i is id above below literals fine homes =
-      let (first, others) = literals_split (literals_of g.core g.mir) id (instruction_literals g.core (here m floors).number i) (flat_map (instruction_literals g.core (here m floors).number) is) (subst (AreLiterals (literals_of g.core g.mir) id) (flat_map-cons (instruction_literals g.core (here m floors).number) i is) literals) in
+  next_of i is above below literals fine homes =
+      let (first, others) = literals_split (literals_of g.core g.mir) (instruction_literals g.core (here m floors).number i) (flat_map (instruction_literals g.core (here m floors).number) is) (subst (AreLiterals (literals_of g.core g.mir)) (flat_map-cons (instruction_literals g.core (here m floors).number) i is) literals) in
       record { stays = s; ending = ending; frames = frames; above = above; below = below; literals = first; others = others; fine = fine.0; paid = fine.1; on = fine.2; homes = homes.0; more = homes.1 }
 
-  action_comes : (a : Action) (landing : Option BlockId) (is : List Instruction) (id : ℕ) → Next g m l floors (Act a landing) is id → Comes g m l
-  action_comes (Constant to n) landing is id next = constant_comes g fit m l floors is id to n landing next
-  action_comes (Load to kind from) landing is id next = load_comes g fit m l floors is id to kind from landing next
-  action_comes (Store to kind from) landing is id next = store_comes g fit m l floors is id kind from to landing next
-  action_comes (Compute c) landing is id next = compute_comes g fit m l floors is id c landing next
-  action_comes (Write w) landing is id next = write_comes g fit m l floors is id w landing next
-  action_comes (WriteText text width) landing is id next = write_text_comes g fit m l floors is id text width landing next
-  action_comes (Copy of to from) landing is id next = copy_comes g fit m l floors is id of to from landing next
-  action_comes (Look at) landing is id next = look_comes g fit m l floors is id at landing next
-  action_comes (BeginWith v) landing is id next = begin_with_comes g fit m l floors is id v landing next
-  action_comes (Pick to text index) landing is id next = pick_comes g fit m l floors is id to text index landing next
+  action_comes : (a : Action) (landing : Option BlockId) (is : List Instruction) → Next g m l floors (Act a landing) is → Comes g m l
+  action_comes (Constant to n) landing is next = constant_comes g fit m l floors is to n landing next
+  action_comes (Load to kind from) landing is next = load_comes g fit m l floors is to kind from landing next
+  action_comes (Store to kind from) landing is next = store_comes g fit m l floors is kind from to landing next
+  action_comes (Compute c) landing is next = compute_comes g fit m l floors is c landing next
+  action_comes (Write w) landing is next = write_comes g fit m l floors is w landing next
+  action_comes (WriteText text width) landing is next = write_text_comes g fit m l floors is text width landing next
+  action_comes (Copy of to from) landing is next = copy_comes g fit m l floors is of to from landing next
+  action_comes (Look at) landing is next = look_comes g fit m l floors is at landing next
+  action_comes (BeginWith v) landing is next = begin_with_comes g fit m l floors is v landing next
+  action_comes (Pick to text index) landing is next = pick_comes g fit m l floors is to text index landing next
 
   -- a call ends by an error of its arguments, by error 202, or the routine begins
-  call_comes : (callee : RoutineId) (call : Operands) (is : List Instruction) (id : ℕ) → Next g m l floors (Call callee call) is id → Comes g m l
-  call_comes callee call is id next = by (call_begins g fit m l floors callee call is id next (fit.program.parameters callee.0 (let number = fit.program.number in let there = next.fine.0 in omega arith)))
+  call_comes : (callee : RoutineId) (call : Operands) (is : List Instruction) → Next g m l floors (Call callee call) is → Comes g m l
+  call_comes callee call is next = by (call_begins g fit m l floors callee call is next (fit.program.parameters callee.0 (let number = fit.program.number in let there = next.fine.0 in omega arith)))
     where
-      by : Comes g m l ⊎ Begins g m l floors callee.0 call (rest_below g m l floors (Call callee call) is id next) → Comes g m l
+      by : Comes g m l ⊎ Begins g m l floors callee.0 call (rest_below g m l floors (Call callee call) is next) → Comes g m l
       by (inl comes) = comes
       by (inr begins) =
-          begins_comes g fit m l floors callee call is id next begins
-          (λ new values bound same variables places locals. caller_waits g fit m l floors callee call is id next begins new values bound same (record { variables = variables; places = places }) locals)
+          begins_comes g fit m l floors callee call is next begins
+          (λ new values bound same variables places locals. caller_waits g fit m l floors callee call is next begins new values bound same (record { variables = variables; places = places }) locals)
 
-  instruction_comes : (i : Instruction) (is : List Instruction) (id : ℕ) → Next g m l floors i is id → Comes g m l
-  instruction_comes (Act a landing) is id next = action_comes a landing is id next
-  instruction_comes (Call r call) is id next = call_comes r call is id next
-  instruction_comes (Jump block) is id next = jump_comes g fit m l floors is id block next
-  instruction_comes (When t block) is id next = when_comes g fit m l floors is id t block next
-  instruction_comes (Unless t block) is id next = unless_comes g fit m l floors is id t block next
-  instruction_comes (Switch t arms) is id next = switch_comes g fit m l floors is id t arms next
-  instruction_comes (Dispatch t block) is id next = dispatch_comes g fit m l floors is id t block next
-  instruction_comes (MakeDue f) is id next = make_due_comes g fit m l floors is id f due next
-  instruction_comes (Stop t) is id next = stop_comes g fit m l floors is id t next
-  instruction_comes Return is id next = return_comes g fit m l floors is id due next
+  instruction_comes : (i : Instruction) (is : List Instruction) → Next g m l floors i is → Comes g m l
+  instruction_comes (Act a landing) is next = action_comes a landing is next
+  instruction_comes (Call r call) is next = call_comes r call is next
+  instruction_comes (Jump block) is next = jump_comes g fit m l floors is block next
+  instruction_comes (When t block) is next = when_comes g fit m l floors is t block next
+  instruction_comes (Unless t block) is next = unless_comes g fit m l floors is t block next
+  instruction_comes (Switch t arms) is next = switch_comes g fit m l floors is t arms next
+  instruction_comes (Dispatch t block) is next = dispatch_comes g fit m l floors is t block next
+  instruction_comes (MakeDue f) is next = make_due_comes g fit m l floors is f due next
+  instruction_comes (Stop t) is next = stop_comes g fit m l floors is t next
+  instruction_comes Return is next = return_comes g fit m l floors is due next
 
   -- low code comes along, and what is still to become due does so
   abbrev Steps : Type 0
   Steps = Comes g m l × AreStillDue g (mir_step (managed g) m)
 
-  position_comes : (is : List Instruction) (id : ℕ) → m.rest ≡ map (view_instruction g.core (here m floors).number) is → l.top.now ≡ code_of g.core g.mir (here m floors).frame (here m floors).number id is → AreLiterals (literals_of g.core g.mir) id (flat_map (instruction_literals g.core (here m floors).number) is) → AreFine g.core g.mir (here m floors).number (here m floors).routine is → HaveHomes g.core (here m floors).number (here m floors).frame is → Steps
-  position_comes [] id above below literals fine homes = absurd fine
-  position_comes (i ∷ is) id above below literals fine homes = let next = next_of i is id above below literals fine homes in (instruction_comes i is id next, instruction_due g fit m l floors due i is id next)
+  position_comes : (is : List Instruction) → m.rest ≡ map (view_instruction g.core (here m floors).number) is → l.top.now ≡ code_of g.core g.mir (here m floors).frame (literals_of g.core g.mir) is → AreLiterals (literals_of g.core g.mir) (flat_map (instruction_literals g.core (here m floors).number) is) → AreFine g.core g.mir (here m floors).number (here m floors).routine is → HaveHomes g.core (here m floors).number (here m floors).frame is → Steps
+  position_comes [] above below literals fine homes = absurd fine
+  position_comes (i ∷ is) above below literals fine homes = let next = next_of i is above below literals fine homes in (instruction_comes i is next, instruction_due g fit m l floors due i is next)
 
 -- from any states that stand for one another
 module _ (g : Setting) (fit : IsFitting g) where
   comes_by : (e : Ending) (frames : List Frame) (m : MirState) (l : State) → m.world.ending ≡ e → m.frames ≡ frames → AreStillDue g m → StandsBy g e frames m l → Comes g m l × AreStillDue g (mir_step (managed g) m)
   comes_by (HasEnded status) frames m l ending frames_are due s = (ended_comes g m l status ending s, subst (AreStillDue g) (sym (stays_above g m status ending)) due)
   comes_by GoingOn [] m l ending frames_are due s =
-      position_comes g fit m l ending frames_are s.floors s.stays due s.position.is s.position.id s.position.above s.position.below s.position.literals s.position.fine s.position.homes
+      position_comes g fit m l ending frames_are s.floors s.stays due s.position.is s.position.above s.position.below s.position.literals s.position.fine s.position.homes
   comes_by GoingOn (closing status ∷ []) m l ending frames_are due (inl s) =
       (closing_comes g m l status ending frames_are s, subst (AreStillDue g) (sym (closing_step g m status m.pending ending frames_are s.raised refl)) (closing_due g m status m.pending frames_are))
   comes_by GoingOn (closing status ∷ []) m l ending frames_are due (inr s) =

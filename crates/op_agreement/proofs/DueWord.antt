@@ -42,7 +42,7 @@ module _ (g : Setting) (fit : IsFitting g) (l : State) (above : g.bottom ≤ l.l
 
   pub due_addressed : (f : ℕ → ℕ) (to : VirtualRegister) (rest : List LowInstruction) → Goes g 1 1 (at l f (Address to (due_word g.core) ∷ rest)) (at l (λ r. if nat_eq r to.0 then due_address g else f r) rest)
   unfolding act
-  due_addressed f to rest = goes_one g l f (Address to (due_word g.core)) rest
+  due_addressed f to rest = goes_one g l f (Address to (due_word g.core)) rest refl
 
   pub due_loads : (f : ℕ → ℕ) (to base : VirtualRegister) (rest : List LowInstruction) (n : ℕ) → f base.0 ≡ due_address g → word_at l.memory (due_address g) ≡ n → Goes g 1 1 (at l f (Load Lw to base (pos 0) ∷ rest)) (at l (λ r. if nat_eq r to.0 then n else f r) rest)
   unfolding act load
@@ -55,7 +55,7 @@ module _ (g : Setting) (fit : IsFitting g) (l : State) (above : g.bottom ≤ l.l
       ∙ ap (λ x. load g.placement Lw to x (at l f rest)) plain
       ∙ cond-true (can_access (usable g.placement.rights.readable (at l f rest)) (due_address g) 4) (keep to (word_at l.memory (due_address g)) (at l f rest)) (bad (at l f rest)) can
       ∙ ap (λ w. keep to w (at l f rest)) told)
-      (goes_one g l f (Load Lw to base (pos 0)) rest)
+      (goes_one g l f (Load Lw to base (pos 0)) rest refl)
 
   pub due_stores : (f : ℕ → ℕ) (from base : VirtualRegister) (rest : List LowInstruction) (n : ℕ) → f base.0 ≡ due_address g → f from.0 ≡ n → Goes g 1 1 (at l f (Store Sw from base (pos 0) ∷ rest)) (having l f rest (with_bytes l.memory (due_address g) (bytes_low_first 0 4 n)))
   unfolding act store
@@ -68,7 +68,7 @@ module _ (g : Setting) (fit : IsFitting g) (l : State) (above : g.bottom ≤ l.l
       ∙ ap (λ x. store g.placement Sw (f from.0) x (at l f rest)) plain
       ∙ cond-true (can_access (usable g.placement.rights.writable (at l f rest)) (due_address g) 4) (having l f rest (with_bytes l.memory (due_address g) (bytes_low_first 0 4 (f from.0)))) (bad (at l f rest)) can
       ∙ ap (λ w. having l f rest (with_bytes l.memory (due_address g) (bytes_low_first 0 4 w))) told)
-      (goes_one g l f (Store Sw from base (pos 0)) rest)
+      (goes_one g l f (Store Sw from base (pos 0)) rest refl)
 
 -- another number is counted, and no value is touched
 module _ (g : Setting) (fit : IsFitting g) (closes : has_closing g.core ≡ true) (floors : ℕ → Floor) (m : MirState) (l : State) (s : Stays g floors m l) (pending : List Pending) (are : ArePending (finalizations g.core) pending) where

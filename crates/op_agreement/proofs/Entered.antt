@@ -8,6 +8,7 @@ use Rattle.op_constants.proofs.Lying.{kept}
 use Rattle.op_constants.proofs.TypesArranged.{type_is_arranged}
 use Rattle.op_constants.proofs.Zeros.{AreZeros, zero-number, zero_lies}
 use Rattle.op_constants.specs.Lies.{Lies, arrangement_of, bytes_in}
+use Rattle.op_core.proofs.Rows.{row_at}
 use Rattle.op_core.specs.Rows.{rows}
 use Rattle.op_core.specs.declared.ids.TypeId.{TypeId}
 use Rattle.op_core.specs.declared.routine.Variable.{Variable}
@@ -29,7 +30,7 @@ use Rattle.op_rv.proofs.Memory.{with_bytes-below, with_bytes-within, zeros_get}
 use Rattle.op_agreement.proofs.Charting.{live_stands}
 use Rattle.op_agreement.proofs.Counting.{count_below}
 use Rattle.op_agreement.proofs.Entering.{Enters, above_at, at_deeper, below_begun, bound_below, entered_is, few_given, is_stored, locals_here, locals_of, memory_begun, nameless_back, parameter_is, register_free, registers_begun, row_there, value_below, value_global, value_held, value_temporary, value_unset, values_at, world_after, world_begun, zero_stored, zero_temporary}
-use Rattle.op_agreement.proofs.Keeping.{InFree, InOwn, found_row, held_variable, reference_is_parameter, temporaries_behind}
+use Rattle.op_agreement.proofs.Keeping.{InFree, InOwn, held_variable, reference_is_parameter, temporaries_behind}
 use Rattle.op_agreement.proofs.Parameters.{IsParameter}
 use Rattle.op_agreement.proofs.Updating.{floors_here, limit_here}
 use Rattle.op_agreement.specs.Chart.{AllLie, Floor, IsAt, Live, address_of, stored_offset, type_held}
@@ -72,11 +73,11 @@ module _ (g : Setting) (fit : IsFitting g) (m : MirState) (l : State) (floors ne
     where
       by : (o : Option Variable) → slice_get g.core.variables ((variables_of g.core floor_here.number).first + v) ≡ o → refers o ≡ true → (p : Variable) × (slice_get rows_here v ≡ Some p)
       by None at_ is = absurd cc
-      by (Some p) at_ is = (p, found_row g.core.variables (variables_of g.core floor_here.number) v low ∙ at_)
+      by (Some p) at_ is = (p, row_at g.core.variables (variables_of g.core floor_here.number) v low ∙ at_)
 
   -- the row of a variable is that of the program
   row_is : (v : ℕ) (p : Variable) → v < (variables_of g.core floor_here.number).count → slice_get rows_here v ≡ Some p → slice_get g.core.variables ((variables_of g.core floor_here.number).first + v) ≡ Some p
-  row_is v p low found = sym (found_row g.core.variables (variables_of g.core floor_here.number) v low) ∙ found
+  row_is v p low found = sym (row_at g.core.variables (variables_of g.core floor_here.number) v low) ∙ found
 
   -- the place that a parameter stands for is at the address in its register
   reference_at : (v : ℕ) → IsVariable g.core floor_here.number v true → IsAt g new deep (world.bound deep v) (type_of_local g.core floor_here.number v) (registers (parameter v)) × (registers (parameter v) < 2 ^ 32)

@@ -1,6 +1,7 @@
 -- A routine begins: its floor, its zeros, and what is kept below.
 use Rattle.std.proofs.Common.{◌≡◌, ◌≤◌, ◌<◌, ℕ, suc, ◌+◌, ◌-◌, List, [], ◌∷◌, length, Option, Some, None, refl, sym, ap, ap₂, ◌∙◌, subst, arith, replicate, length-take}
 use Rattle.std.specs.Prelude.{Bool, true, false, ◌&&◌, nat_eq, nat_le, slice_get, slice_index, if◌then◌else◌}
+use Rattle.std.proofs.Math.Bool.{and-false}
 use Rattle.std.proofs.lemmas.Bool.Decides.{nat_tests}
 use Rattle.std.proofs.lemmas.List.{get_or_past}
 use Rattle.op_core.specs.Rows.{rows}
@@ -25,7 +26,7 @@ use Rattle.op_mir.specs.Plain.{IsNameless}
 use Rattle.op_mir.specs.declared.code.Routine.{Routine}
 use Rattle.op_rv.specs.State.{with_bytes}
 use Rattle.op_agreement.proofs.Keeping.{take_get}
-use Rattle.op_agreement.proofs.Parameters.{IsParameter, as_many, bound_other, first_differs, given_other, given_rest, parameter_stands, second_differs, and_false}
+use Rattle.op_agreement.proofs.Parameters.{IsParameter, as_many, bound_other, first_differs, given_other, given_rest, parameter_stands, second_differs}
 use Rattle.op_agreement.proofs.Returning.{live_deeper}
 use Rattle.op_agreement.proofs.Updating.{SameFloors, at_moved}
 use Rattle.op_agreement.specs.Chart.{Floor, IsAt}
@@ -200,13 +201,13 @@ module _ (g : Setting) (fit : IsFitting g) (m : MirState) (l : State) (floors ne
 
   -- one that is kept in a register has its value
   pub value_held : (k v : ℕ) → is_stored (home_at floor_here.frame.homes (record { 0 = v })) ≡ false → values_at k (local deep v) ≡ world_after.memory (local deep v)
-  value_held k v held = ap (picked v) (ap (λ y. (nat_eq deep deep && nat_le k v) && y) held ∙ and_false (nat_eq deep deep && nat_le k v))
+  value_held k v held = ap (picked v) (ap (λ y. (nat_eq deep deep && nat_le k v) && y) held ∙ and-false (nat_eq deep deep && nat_le k v))
 
   -- and so has one that is stored
   pub value_past : (k v : ℕ) → v < k → values_at k (local deep v) ≡ world_after.memory (local deep v)
   value_past k v low =
       let b : nat_le k v ≡ false = grind (arith, nat_tests) in
-      ap (picked v) (ap (λ y. (nat_eq deep deep && y) && is_stored (home_at floor_here.frame.homes (record { 0 = v }))) b ∙ ap (λ y. y && is_stored (home_at floor_here.frame.homes (record { 0 = v }))) (and_false (nat_eq deep deep)))
+      ap (picked v) (ap (λ y. (nat_eq deep deep && y) && is_stored (home_at floor_here.frame.homes (record { 0 = v }))) b ∙ ap (λ y. y && is_stored (home_at floor_here.frame.homes (record { 0 = v }))) (and-false (nat_eq deep deep)))
 
   -- a variable that is no parameter
   pub value_unset : (v : ℕ) → length given ≤ v → world_after.memory (local deep v) ≡ zero_of g.core (type_of_local g.core r v)

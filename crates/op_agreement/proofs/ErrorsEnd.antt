@@ -1,5 +1,5 @@
 -- An error ends the program: its line goes to the error stream, and its number is the status.
-use Rattle.std.proofs.Common.{◌≡◌, ◌≤◌, ◌<◌, inl, inr, ℕ, ◌+◌, List, [], ◌∷◌, ◌++◌, length, Some, None, refl, sym, ap, ap₂, ◌∙◌, subst, arith}
+use Rattle.std.proofs.Common.{◌≡◌, ◌≤◌, ◌<◌, inl, inr, ℕ, ◌+◌, List, [], ◌∷◌, ◌++◌, length, Some, refl, sym, ap, ap₂, ◌∙◌, subst, arith}
 use Rattle.std.specs.Prelude.{◌^◌, ◌%◌, true, ◌&&◌, codes, nat_lt, slice_get, if◌then◌else◌}
 use Rattle.std.proofs.lemmas.Bool.{cond-true}
 use Rattle.std.proofs.lemmas.Bool.Decides.{nat_tests}
@@ -9,10 +9,9 @@ use Rattle.op_compute.specs.Straight.{at}
 use Rattle.op_compute.specs.declared.bank.RuntimeError.{RuntimeError}
 use Rattle.op_compute.specs.declared.bank.RuntimeError.TheVariants.{DivisionByZero, RangeCheck, StackOverflow, IntegerOverflow}
 use Rattle.op_constants.specs.Literals.{literals_of}
-use Rattle.op_core.specs.declared.program.Core.{Core}
 use Rattle.op_expand.specs.Calls.{left, result_address}
 use Rattle.op_expand.specs.Routines.{error_code}
-use Rattle.op_low.specs.Machine.{act, cost, cost_by, done, step, step_by_ending, write}
+use Rattle.op_low.specs.Machine.{act, cost, cost_by, done, shown_by, shows, step, step_by_ending, write}
 use Rattle.op_low.specs.State.{Caller, State, Ended, bad, block_of, usable}
 use Rattle.op_low.specs.declared.instruction.Instruction.{Instruction}
 use Rattle.op_low.specs.declared.instruction.Instruction.TheVariants.{Const, Exit, Write}
@@ -21,12 +20,13 @@ use Rattle.op_meaning.specs.Errors.{failed, stopped}
 use Rattle.op_meaning.specs.Texts.{digits_of, line_feed}
 use Rattle.op_meaning.specs.Values.{Value, Holder, Place}
 use Rattle.op_meaning.specs.World.{World}
+use Rattle.op_mir.proofs.PlainLemmas.{failed_stops}
 use Rattle.op_mir.specs.Code.{Instr}
 use Rattle.op_mir.specs.Machine.{MirCaller, MirState}
 use Rattle.op_rt_text.specs.Names.{literal}
 use Rattle.op_rv.proofs.Memory.{all_of, bytes_from-same}
 use Rattle.op_rv.specs.State.{all_from, bytes_from}
-use Rattle.op_simulation.specs.System.{run, spent}
+use Rattle.op_simulation.specs.System.{run, spent, trace}
 use Rattle.op_agreement.proofs.Going.{Goes, goes_from, goes_one, goes_then, goes_to}
 use Rattle.op_agreement.proofs.Standing.{here}
 use Rattle.op_agreement.specs.Chart.{Floor}
@@ -64,9 +64,6 @@ small_number RangeCheck = refl
 small_number StackOverflow = refl
 small_number IntegerOverflow = refl
 
-pub failed_is : (core : Core) → core.exceptions ≡ None → (n : ℕ) (w : World) → failed core n w ≡ stopped n w
-failed_is core none n w = rw none
-
 -- ---- its code
 
 module _ (g : Setting) where
@@ -80,8 +77,8 @@ module _ (g : Setting) where
   over l f text n = record (said l (λ r. if Rattle.std.specs.Prelude.nat_eq r 0 then n else f r) [] text) { ending = Ended (n % 2 ^ 8) }
 
   begins : (l : State) (f : ℕ → ℕ) (n id : ℕ) → Goes g 2 2 (at l f (error_code n id)) (at l (after_two l f id) (Write Errors left result_address ∷ Const left n ∷ Exit left ∷ []))
-  unfolding run spent step step_by_ending done act cost cost_by
-  begins l f n id = record { steps = 2; enough = omega arith; within = omega arith; ends = refl }
+  unfolding run spent trace step step_by_ending done act cost cost_by shows shown_by
+  begins l f n id = record { steps = 2; enough = omega arith; within = omega arith; ends = refl; unread = refl }
 
   writes : (l : State) (f : ℕ → ℕ) (now : List Instruction) (at_ : ℕ) (text : List ℕ) → f 0 ≡ at_ → f 1 ≡ length text → all_from (usable g.placement.rights.readable l) at_ (length text) ≡ true → bytes_from l.memory at_ (length text) ≡ text → Goes g 1 1 (at l f (Write Errors left result_address ∷ now)) (said l f now text)
   unfolding act write
@@ -90,11 +87,11 @@ module _ (g : Setting) where
       (cond-true (all_from (usable g.placement.rights.readable l) (f 0) (f 1)) (said l f now (bytes_from l.memory (f 0) (f 1))) (bad (at l f now))
       (ap (λ x. all_from (usable g.placement.rights.readable l) x (f 1)) zeroth ∙ ap (all_from (usable g.placement.rights.readable l) at_) first ∙ may)
       ∙ ap (said l f now) (ap (λ x. bytes_from l.memory x (f 1)) zeroth ∙ ap (bytes_from l.memory at_) first ∙ is))
-      (goes_one g l f (Write Errors left result_address) now)
+      (goes_one g l f (Write Errors left result_address) now refl)
 
   ends : (l : State) (f : ℕ → ℕ) (text : List ℕ) (n : ℕ) → Goes g 2 2 (said l f (Const left n ∷ Exit left ∷ []) text) (over l f text n)
-  unfolding run spent step step_by_ending done act cost cost_by
-  ends l f text n = record { steps = 2; enough = omega arith; within = omega arith; ends = refl }
+  unfolding run spent trace step step_by_ending done act cost cost_by shows shown_by
+  ends l f text n = record { steps = 2; enough = omega arith; within = omega arith; ends = refl; unread = refl }
 
   -- a literal stands where it was loaded
   pub literal_there : (l : State) (at_ : ℕ) (text : List ℕ) → LiteralStands g at_ text → g.bottom ≤ l.limit → Rattle.op_agreement.specs.Stands.IsFixed g l.memory → (all_from (usable g.placement.rights.readable l) at_ (length text) ≡ true) × (bytes_from l.memory at_ (length text) ≡ text)
@@ -138,7 +135,7 @@ module _ (g : Setting) where
 
   -- and so does the program above
   pub error_stands : IsFitting g → (m : MirState) (e : RuntimeError) (k : State) → k.ending ≡ Ended (number_of_error e) → k.output ≡ m.world.output → k.errors ≡ m.world.errors ++ error_line (number_of_error e) → k.input ≡ m.world.input → Stands g (record m { world = failed g.core (number_of_error e) m.world }) k
-  error_stands fit m e k ending output errors input = by (failed g.core (number_of_error e) m.world) (failed_is g.core fit.program.exceptions (number_of_error e) m.world)
+  error_stands fit m e k ending output errors input = by (failed g.core (number_of_error e) m.world) (failed_stops g.core fit.program.exceptions (number_of_error e) m.world)
     where
       by : (w : World) → w ≡ stopped (number_of_error e) m.world → Stands g (record m { world = w }) k
       by w is = subst (λ x. Stands g (record m { world = x }) k) (sym is) (record { ending = ending; output = output; errors = errors; input = input })

@@ -6,7 +6,7 @@ use Rattle.std.proofs.lemmas.Bool.Decides.{nat_tests}
 use Rattle.op_compute.specs.Bank.{error_block_of}
 use Rattle.op_compute.specs.Straight.{at, outcome, put}
 use Rattle.op_compute.specs.declared.bank.RuntimeError.TheVariants.{StackOverflow}
-use Rattle.op_constants.proofs.TypesArranged.{some_at}
+use Rattle.op_core.proofs.Rows.{there_is}
 use Rattle.op_core.specs.declared.ids.RoutineId.{RoutineId}
 use Rattle.op_core.specs.declared.program.Core.{Core}
 use Rattle.op_expand.specs.Calls.{charge_of, charging_code, closing_number, finalizations, has_closing, left, result_address, runtime}
@@ -129,7 +129,7 @@ module _ (g : Setting) (fit : IsFitting g) (m : MirState) (l : State) (status : 
       record {
         to = k;
         goes = goes_from g 1 l (at base s.registers (Exit (register 1) ∷ [])) k (s.is ∙ ap (λ n. at base s.registers (closing_code g n)) none)
-            (goes_within g 1 (most_for_one * mir_cost (managed g) m) (at base s.registers (Exit (register 1) ∷ [])) k (goes_one g base s.registers (Exit (register 1)) []) (few_cost g 1 m ending (omega arith)));
+            (goes_within g 1 (most_for_one * mir_cost (managed g) m) (at base s.registers (Exit (register 1) ∷ [])) k (goes_one g base s.registers (Exit (register 1)) [] refl) (few_cost g 1 m ending (omega arith)));
         stands = subst (λ x. Stands g x k) (sym (closing_step g m status [] ending frames s.stays.plain.raised nothing)) (record { ending = ap (λ x. Ended x) s.told; output = s.stays.output; errors = s.stays.errors; input = s.stays.input });
       }
 
@@ -192,7 +192,7 @@ module _ (g : Setting) (fit : IsFitting g) (m : MirState) (l : State) (status : 
         let exact : due_for g.stack n ≡ g.stack + n = omega arith in
         let same : reached 3 ≡ g.stack + length others = exact ∙ ap (λ j. g.stack + j) (sym (due_count all_parts n)) in
         let one = due_addressed g fit base bottom_here s.registers due (Const number (due_for g.stack n) ∷ storing) in
-        let two = goes_one g base f1 (Const number (due_for g.stack n)) storing in
+        let two = goes_one g base f1 (Const number (due_for g.stack n)) storing refl in
         let three = due_stores g fit base bottom_here reached number due (charging ++ entering) (g.stack + length others) refl same in
         goes_from g 3 l (at base s.registers (part_code g.core g.mir g.stack (length all_parts) n f)) at_charging
         (s.is ∙ ap (λ j. at base s.registers (closing_code g j)) count ∙ ap (at base s.registers) (part_block g fit s.some n f there))
@@ -436,7 +436,7 @@ module _ (g : Setting) (fit : IsFitting g) (m : MirState) (l : State) (status : 
       called =
           goes_to g 1 (at state_there calling entering) (act g.low g.placement (call (runtime + f.0) (number ∷ left ∷ []) number) (at state_there calling (Jump (block_id 0) ∷ []))) begun
           (ap (λ b. if b then begun else bad (at state_there calling (Jump (block_id 0) ∷ []))) may_enter)
-          (goes_within g 1 (3 + space_of g f.0) (at state_there calling entering) (act g.low g.placement (call (runtime + f.0) (number ∷ left ∷ []) number) (at state_there calling (Jump (block_id 0) ∷ []))) (goes_one g state_there calling (call (runtime + f.0) (number ∷ left ∷ []) number) (Jump (block_id 0) ∷ [])) (omega arith))
+          (goes_within g 1 (3 + space_of g f.0) (at state_there calling entering) (act g.low g.placement (call (runtime + f.0) (number ∷ left ∷ []) number) (at state_there calling (Jump (block_id 0) ∷ []))) (goes_one g state_there calling (call (runtime + f.0) (number ∷ left ∷ []) number) (Jump (block_id 0) ∷ []) refl) (omega arith))
 
       -- managed code begins it
       abbrev begun_above : MirState
@@ -483,7 +483,7 @@ module _ (g : Setting) (fit : IsFitting g) (m : MirState) (l : State) (status : 
           }
 
     part_comes : Comes g m l
-    part_comes = let (x, found) = some_at g.mir.routines f.0 part.exists in by x found (nat_lt g.stack (m.charged + (managed g).charge f.0)) refl
+    part_comes = let (x, found) = there_is g.mir.routines f.0 part.exists in by x found (nat_lt g.stack (m.charged + (managed g).charge f.0)) refl
       where
         by : (x : Routine) → slice_get g.mir.routines f.0 ≡ Some x → (b : Bool) → nat_lt g.stack (m.charged + (managed g).charge f.0) ≡ b → Comes g m l
         by x found true over = stack_over x found over
@@ -496,5 +496,5 @@ module _ (g : Setting) (fit : IsFitting g) (m : MirState) (l : State) (status : 
       by zero none = ends_comes none
       by (suc n) count =
           let few = s.stays.pending.few in
-          let (f, there) = some_at all_parts n (omega arith) in
+          let (f, there) = there_is all_parts n (omega arith) in
           part_comes n count f there ((fit.closing s.some).parts n f there)

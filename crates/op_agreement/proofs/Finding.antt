@@ -175,4 +175,4 @@ module _ (g : Setting) (fit : IsFitting g) (closes : has_closing g.core ≡ true
       (ap (λ b. if b then begun_with f status rest (routine_of g.low (closing_number g.core)) else bad (at l f rest)) may_enter
       ∙ ap (begun_with f status rest) the_routine
       ∙ ap₂ (λ limit memory. let x : State = record (closing_begun g l (ends_at l f rest) (slice_index (f 0 ∷ f status.0 ∷ [])) (finding_code g.core g.stack (length (finalizations g.core)))) { limit = limit; memory = memory } in x) plain (with_nothing l.memory l.limit))
-      (goes_one g l f (closing_call g.core status) rest)) (omega arith)
+      (goes_one g l f (closing_call g.core status) rest refl)) (omega arith)

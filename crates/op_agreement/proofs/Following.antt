@@ -1,5 +1,6 @@
 -- From steps of low code that lead to a state that stands for the next one of managed code to the simulation.
 use Rattle.std.proofs.Common.{◌≡◌, ◌≢◌, ◌≤◌, inl, inr, ◌*◌, ℕ, zero, suc, List, [], ◌∷◌, ◌++◌, refl, sym, ap, ◌∙◌, subst, arith}
+use Rattle.std.specs.List.{list_any}
 use Rattle.op_low.proofs.MachineLemmas.{stopped_halts}
 use Rattle.op_low.specs.Machine.{low_machine}
 use Rattle.op_low.specs.State.{State, Ending, Running, Ended, Bad, goes_on}
@@ -15,7 +16,7 @@ use Rattle.op_agreement.proofs.Streams.{Grows, joins_bytes, run_grows, same_byte
 use Rattle.op_agreement.specs.Claims.{NeverBecomesBad, SameBytes, lowered}
 use Rattle.op_agreement.specs.Settings.{Setting, managed}
 use Rattle.op_agreement.specs.Stands.{AreStillDue, Stands, StandsBy, StandsFor}
-use Rattle.op_agreement.specs.Steps.{counted, most_for_one}
+use Rattle.op_agreement.specs.Steps.{counted, is_read, most_for_one}
 pub use Rattle.op_agreement.specs.Steps.{Comes}
 
 -- ---- what is equal where states stand for one another, and that low code is not bad there
@@ -62,7 +63,7 @@ module _ (g : Setting) where
 
   -- ---- the machine that counts shows the same
 
-  trace_counted : (n : ℕ) (l : State) → trace (counted g) n l ≡ trace (low_machine g.low g.placement) n l
+  pub trace_counted : (n : ℕ) (l : State) → trace (counted g) n l ≡ trace (low_machine g.low g.placement) n l
   unfolding trace
   trace_counted zero l = refl
   trace_counted (suc n) l = ap (λ xs. (low_machine g.low g.placement).shows l ++ xs) (trace_counted n ((low_machine g.low g.placement).step l))
@@ -84,7 +85,7 @@ module _ (g : Setting) where
         states = subst (StandsFor g (mir_step (managed g) m)) (sym (run_counted g (suc more) l ∙ ends)) (due, c.stands);
         traces = subst (SameBytes (mir_shows (managed g) m)) (sym (trace_counted (suc more) l))
             (same_bytes g.core (looks_on m.rest m.frames) m.world (mir_step (managed g) m).world l c.to (trace (low_machine g.low g.placement) (suc more) l) same.output same.errors after.output after.errors
-            (subst (λ k. Grows l k (trace (low_machine g.low g.placement) (suc more) l)) ends (run_grows g.low g.placement (suc more) l)));
+            (subst (λ k. Grows l k (trace (low_machine g.low g.placement) (suc more) l)) ends (run_grows g.low g.placement (suc more) l)) (ap (λ n. list_any is_read (trace (low_machine g.low g.placement) n l)) (sym steps) ∙ c.goes.unread));
         within = subst (λ n. spent (counted g) n l ≤ most_for_one * mir_cost (managed g) m) steps c.goes.within;
         moments = λ j less. subst (λ (k : State). k.ending ≢ Bad) (sym (run_counted g j l)) (fine_before j (suc more) l c.to (omega arith) ends after.fine);
       }

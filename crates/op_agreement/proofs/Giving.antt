@@ -1,6 +1,7 @@
 -- The arguments of a call: the code of each comes to a register that has what is handed over, or to error 201 of an index.
 use Rattle.std.proofs.Common.{◌≡◌, ◌≤◌, ◌<◌, ◌⊎◌, inl, inr, ℕ, ℤ, suc, ◌+◌, ◌-◌, List, [], ◌∷◌, ◌++◌, length, Option, Some, None, refl, sym, ap, ◌∙◌, subst, arith, append_assoc, ◌*◌}
 use Rattle.std.specs.Prelude.{◌^◌, ◌%◌, map, pos, negsuc, true, false}
+use Rattle.std.proofs.lemmas.Bool.{and_parts}
 use Rattle.std.specs.Int.{w32, w16, w8, int_wrap, int_rem_euclid}
 use Rattle.std.specs.List.{list_all, sum_by}
 use Rattle.std.specs.Option.{option_map}
@@ -44,7 +45,7 @@ use Rattle.op_mir.specs.declared.path.Root.TheVariants.{Global, Local, Through, 
 use Rattle.op_mir.specs.declared.path.Root.{Root}
 use Rattle.op_mir.specs.declared.path.Step.{Step}
 use Rattle.op_rt_text.specs.Names.{block_id}
-use Rattle.op_agreement.proofs.Branching.{both_true, has_of}
+use Rattle.op_agreement.proofs.Branching.{has_of}
 use Rattle.op_agreement.proofs.Elements.{KeptBelow}
 use Rattle.op_agreement.proofs.Going.{Goes, GoesTo, goes_fewer, goes_from, goes_none, goes_straight, goes_then, goes_within}
 use Rattle.op_agreement.proofs.Lengths.{low_bits_short}
@@ -79,7 +80,7 @@ low_bits_again Signed16 n = int_wrap_fits w16 (int_wrap w16 n) (SFits-int_wrap w
 low_bits_again Unsigned16 n = rem_half n
 low_bits_again Signed32 n = int_wrap_fits w32 (int_wrap w32 n) (SFits-int_wrap w32 n)
 
-module _ (g : Setting) (fit : IsFitting g) (m : MirState) (l : State) (floors : ℕ → Floor) (i : Instruction) (js : List Instruction) (id : ℕ) (next : Next g m l floors i js id) where
+module _ (g : Setting) (fit : IsFitting g) (m : MirState) (l : State) (floors : ℕ → Floor) (i : Instruction) (js : List Instruction) (next : Next g m l floors i js) where
   abbrev frame : Frame
   frame = (here m floors).frame
 
@@ -191,7 +192,7 @@ module _ (g : Setting) (fit : IsFitting g) (m : MirState) (l : State) (floors : 
   copied_placed of (Local v) [] typed shape rooted =
       let (variable, type) = typed.root in
       next.stays.activation.floor.fits.composites v variable (ap (shape_of g.core) type ∙ ap (shape_of g.core) typed.reaches ∙ shape)
-  copied_placed of (Local v) (st ∷ ss) typed shape rooted = placed_part g fit m l floors js id i next v st ss of typed
+  copied_placed of (Local v) (st ∷ ss) typed shape rooted = placed_part g fit m l floors js i next v st ss of typed
 
   -- its register is none of those that are taken
   pub given_fits_spot : (x : Given) (p : Variable) (free : VirtualRegister) → given_fits g.mir (here m floors).routine x ≡ true → IsTypedGiven g.core (here m floors).number (view_given x) p → HasGiven g.core (here m floors).number (here m floors).frame x → scratch_here ≤ free.0 → SpotFits scratch_here free (given_spot g.core (here m floors).frame x free)
@@ -225,7 +226,7 @@ module _ (g : Setting) (fit : IsFitting g) (m : MirState) (l : State) (floors : 
       given_within (place_most path) (given_most (ByCopy of path)) _ f free _ rest p _ (omega arith)
       (path_given path of p (λ q. a_value (value_at m.world q)) free f rest
       (λ q a is low. (value, inr (ap (shape_of g.core) same ∙ shape, q, subst (λ t. IsAt g floors (length m.callers) q t a) (sym same) is, refl, low)))
-      typed (copied_placed of path.root path.steps typed shape homes) (indices_in g.mir (here m floors).routine path (both_true (has_type g.mir of) (path_fits g.mir (here m floors).routine path) fits).1) less kept)
+      typed (copied_placed of path.root path.steps typed shape homes) (indices_in g.mir (here m floors).routine path (and_parts (has_type g.mir of) (path_fits g.mir (here m floors).routine path) fits).1) less kept)
 
   -- ---- all arguments
 
@@ -288,7 +289,7 @@ module _ (g : Setting) (fit : IsFitting g) (m : MirState) (l : State) (floors : 
   all_given [] (p ∷ ps) free f rest fits typed homes less kept = absurd typed
   all_given (x ∷ xs) [] free f rest fits typed homes less kept = absurd typed
   all_given (x ∷ xs) (p ∷ ps) free f rest fits (typed, others_typed) (homes, others_homes) less kept =
-      let (fits_first, fits_others) = both_true (given_fits g.mir (here m floors).routine x) (list_all (given_fits g.mir (here m floors).routine) xs) fits in
+      let (fits_first, fits_others) = and_parts (given_fits g.mir (here m floors).routine x) (list_all (given_fits g.mir (here m floors).routine) xs) fits in
       let spot = given_spot g.core (here m floors).frame x free in
       let stands = given_fits_spot x p free fits_first typed homes less in
       let more = stands.more in

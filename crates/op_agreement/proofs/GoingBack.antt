@@ -46,7 +46,7 @@ live_deeper core floors d e (object name) less live = absurd live
 pub procedure_returning : (core : Core) (r : ℕ) → r < length core.routines → result_of (slice_get core.routines r) ≡ None → returning_of core r ≡ Nothing
 procedure_returning core r low none = let t : nat_eq r (length core.routines) ≡ false = grind (arith, nat_tests) in rw (t, none) refl
 
-module _ (g : Setting) (fit : IsFitting g) (m : MirState) (l : State) (floors : ℕ → Floor) (is : List Instruction) (id : ℕ) (next : Next g m l floors Return is id) (c : MirCaller) (cs : List MirCaller) (lc ended : Caller) (others : List Caller) (above : m.callers ≡ c ∷ cs) (lows : l.callers ≡ lc ∷ ended ∷ others) (below under spare status : ℕ) (a : Activation)
+module _ (g : Setting) (fit : IsFitting g) (m : MirState) (l : State) (floors : ℕ → Floor) (is : List Instruction) (next : Next g m l floors Return is) (c : MirCaller) (cs : List MirCaller) (lc ended : Caller) (others : List Caller) (above : m.callers ≡ c ∷ cs) (lows : l.callers ≡ lc ∷ ended ∷ others) (below under spare status : ℕ) (a : Activation)
     (charge : m.charged ≡ under + (managed g).charge m.routine) (at_ : l.limit ≡ below + (floors (suc (length cs))).frame.locals) (more : spare ≡ l.room + space g.low g.placement (runtime + m.routine) + closing_space g) (waits : ClosingWaits g c lc a status m.routine)
     (activation : ActivationStands g floors (length cs) m.world.memory m.world.bound c.temps c.routine a below spare under) (callers : CallersStand g floors m.world.memory m.world.bound cs others c.routine (a.registers result_address.0) below spare under) where
   abbrev lower : State
@@ -92,19 +92,19 @@ module _ (g : Setting) (fit : IsFitting g) (m : MirState) (l : State) (floors : 
   back_step : mir_step (managed g) m ≡ back
   unfolding execute
   back_step =
-      let behind : MirState = record m { rest = rest_above g m l floors Return is id next } in
+      let behind : MirState = record m { rest = rest_above g m l floors Return is next } in
       let w = record m.world { temps = c.temps; made = c.made; depth = m.world.depth - 1 } in
       let value = result_in (tables (managed g)) m.routine m.world in
       let charged : m.charged - (managed g).charge m.routine ≡ under = omega arith in
-      step_here g fit m l floors Return is id next ∙ ap (λ xs. mir_returned (managed g) xs behind) above
+      step_here g fit m l floors Return is next ∙ ap (λ xs. mir_returned (managed g) xs behind) above
       ∙ ap₂ (λ (r : Receiver) (n : ℕ). let x : MirState = record { world = received (tables (managed g)) r value w; routine = c.routine; rest = c.rest; frames = c.frames; callers = cs; pending = m.pending; charged = n } in x) waits.receiver charged
 
   -- ---- the steps below
 
   abbrev rest : List LowInstruction
-  rest = rest_below g m l floors Return is id next
+  rest = rest_below g m l floors Return is next
 
-  returns : code_for g.core g.mir (here m floors).frame id Return ≡ LowReturn left ∷ []
+  returns : code_for g.core g.mir (here m floors).frame Return ≡ LowReturn left ∷ []
   unfolding code_for
   returns =
       let fits = next.stays.activation.floor.fits in
@@ -130,12 +130,12 @@ module _ (g : Setting) (fit : IsFitting g) (m : MirState) (l : State) (floors : 
       let taken : space g.low g.placement l.top.routine ≡ space g.low g.placement (runtime + m.routine) = ap (space g.low g.placement) (s.activation.same ∙ ap (λ r. runtime + r) number) in
       let limit : l.limit - (routine_of g.low l.top.routine).locals ≡ below = omega arith in
       let room : l.room + space g.low g.placement l.top.routine ≡ spare - closing_space g = omega arith in
-      goes_from g 1 l (at l l.top.registers (LowReturn left ∷ rest)) (closing_begun g lower ended again (Jump (block_id 0) ∷ [])) (begins_here g fit m l floors Return is id next (LowReturn left ∷ []) returns)
+      goes_from g 1 l (at l l.top.registers (LowReturn left ∷ rest)) (closing_begun g lower ended again (Jump (block_id 0) ∷ [])) (begins_here g fit m l floors Return is next (LowReturn left ∷ []) returns)
       (goes_to g 1 (at l l.top.registers (LowReturn left ∷ rest)) (act g.low g.placement (LowReturn left) (at l l.top.registers rest)) (closing_begun g lower ended again (Jump (block_id 0) ∷ []))
       (ap (λ xs. return_to g.low g.placement (l.top.registers 0) xs (at l l.top.registers rest)) lows
       ∙ ap₂ (λ x y. closing_in lc.activation.routine lc.activation.now x y) limit room
       ∙ ap₂ (λ number now. closing_in number now below (spare - closing_space g)) waits.same waits.now)
-      (goes_one g l l.top.registers (LowReturn left) rest))
+      (goes_one g l l.top.registers (LowReturn left) rest refl))
 
   jumps : Goes g 1 1 (closing_begun g lower ended again (Jump (block_id 0) ∷ [])) (closing_begun g lower ended again (finding_code g.core g.stack (length (finalizations g.core))))
   unfolding act
@@ -143,7 +143,7 @@ module _ (g : Setting) (fit : IsFitting g) (m : MirState) (l : State) (floors : 
       let base = closing_begun g lower ended again [] in
       goes_to g 1 (at base again (Jump (block_id 0) ∷ [])) (act g.low g.placement (Jump (block_id 0)) (at base again [])) (at base again (finding_code g.core g.stack (length (finalizations g.core))))
       (ap (λ (r : LowRoutine). at base again (code_or (slice_get r.blocks 0))) (fit.closing waits.some).routine)
-      (goes_one g base again (Jump (block_id 0)) [])
+      (goes_one g base again (Jump (block_id 0)) [] refl)
 
   -- the activation of the part has paid for it
   paid : 6 + 2 * length (finalizations g.core) ≤ most_for_one * mir_cost (managed g) m
@@ -154,8 +154,8 @@ module _ (g : Setting) (fit : IsFitting g) (m : MirState) (l : State) (floors : 
       let low = waits.low in
       let few : (here m floors).number < length g.mir.routines = omega arith in
       let charged = (fit.routines (here m floors).number (here m floors).routine s.activation.floor.found s.activation.floor.charge).charged few in
-      let floor_charge = charge_of_floor g fit m l floors Return is id next c cs above in
-      let cost = least g fit m l floors Return is id next in
+      let floor_charge = charge_of_floor g fit m l floors Return is next c cs above in
+      let cost = least g fit m l floors Return is next in
       let units = (fit.closing waits.some).few in
       omega arith
 

@@ -1,12 +1,11 @@
 -- The homes of a routine's variables: registers of their own, and stretches of its locals that are their own.
-use Rattle.std.proofs.Common.{◌≡◌, ◌≢◌, ◌<◌, ◌≤◌, ◌⊎◌, ℕ, zero, suc, ◌+◌, ◌%◌, Bool, true, false, ◌||◌, List, [], ◌∷◌, drop, take, nat_lt, slice_get, Some, refl, sym, ap, ap₂, ◌∙◌, subst, arith, inl, inr, if◌then◌else◌}
+use Rattle.std.proofs.Common.{◌≡◌, ◌≢◌, ◌<◌, ◌≤◌, ◌⊎◌, ℕ, suc, ◌+◌, ◌%◌, Bool, true, false, ◌||◌, List, take, nat_lt, slice_get, Some, refl, sym, ap, ap₂, ◌∙◌, subst, arith, inl, inr, if◌then◌else◌}
 use Rattle.std.proofs.lemmas.Bool.{cases_lt, ltb-true, or_left, or_right}
 use Rattle.std.specs.List.{list_any}
-use Rattle.op_constants.proofs.TypesArranged.{some_at}
 use Rattle.op_constants.specs.Offsets.{size_in}
 use Rattle.op_constants.specs.Shapes.{is_composite}
+use Rattle.op_core.proofs.Rows.{row_at, there_is}
 use Rattle.op_core.specs.Rows.{rows}
-use Rattle.op_core.specs.declared.ids.Run.{Run}
 use Rattle.op_core.specs.declared.program.Core.{Core}
 use Rattle.op_core.specs.declared.routine.Variable.{Variable}
 use Rattle.op_expand.specs.Frames.{first_room, frame_of, parameters_of, variables_room}
@@ -28,23 +27,6 @@ use Rattle.op_agreement.specs.Settings.{HomeFits}
 use Rattle.op_agreement.specs.Typed.{IsVariable}
 
 -- ---- rows that lie together
-
--- behind what is dropped the rows go on
-dropped : {A : Type 0} (n k : ℕ) (xs : List A) → slice_get (drop n xs) k ≡ slice_get xs (n + k)
-dropped zero k xs = let e : k ≡ 0 + k = omega arith in ap (slice_get xs) e
-dropped (suc n) k [] = refl
-dropped (suc n) k (y ∷ ys) = let e : suc (n + k) ≡ suc n + k = omega arith in dropped n k ys ∙ ap (slice_get (y ∷ ys)) e
-
--- among the first rows each is where it was
-taken : {A : Type 0} (n k : ℕ) (xs : List A) → k < n → slice_get (take n xs) k ≡ slice_get xs k
-taken zero k xs few = absurd (omega arith)
-taken (suc n) k [] few = refl
-taken (suc n) zero (y ∷ ys) few = refl
-taken (suc n) (suc k) (y ∷ ys) few = taken n k ys (omega arith)
-
--- the row with this number in a run
-pub row_at : {A : Type 0} (table : List A) (run : Run) (k : ℕ) → k < run.count → slice_get (rows table run) k ≡ slice_get table (run.first + k)
-row_at table run k few = taken run.count k (drop run.first table) few ∙ dropped run.first k table
 
 -- the row of a routine's variable
 pub record IsRow (core : Core) (r v : ℕ) (row : Variable) : Type 0 where
@@ -95,7 +77,7 @@ module _ (core : Core) (r : ℕ) (x : Routine) (has : HasVariables core r x) whe
   -- each variable has its row
   pub row_of : (v : ℕ) → v < (variables_of core r).count → (row : Variable) × IsRow core r v row
   row_of v low =
-      let (row, there) = some_at vs v (subst (λ n. v < n) (sym has.there) low) in
+      let (row, there) = there_is vs v (subst (λ n. v < n) (sym has.there) low) in
       (row, record { counted = low; there = there; stands = sym (row_at core.variables (variables_of core r) v low) ∙ there })
 
   -- a variable is at home where its way of being kept and what is free before it say

@@ -6,10 +6,11 @@ use Rattle.std.proofs.lemmas.Bool.{cases_eq, cases_lt}
 use Rattle.std.proofs.lemmas.Bool.Decides.{nat_tests}
 use Rattle.op_constants.specs.Offsets.{size_in}
 use Rattle.op_constants.specs.Shapes.{is_composite}
+use Rattle.op_core.proofs.Rows.{row_at, row_of}
 use Rattle.op_core.specs.Rows.{rows}
-use Rattle.op_core.specs.declared.ids.Run.{Run}
 use Rattle.op_core.specs.declared.program.Core.{Core}
 use Rattle.op_core.specs.declared.routine.Variable.{Variable}
+use Rattle.op_expand.proofs.RoomLemmas.{room_grows}
 use Rattle.op_expand.specs.Frames.{first_room, frame_of, parameters_of}
 use Rattle.op_expand.specs.Homes.{home_at, home_by, homes_from, is_one_root, keeping_of, parameter, room_behind, room_by, roots_of}
 use Rattle.op_expand.specs.declared.frame.Frame.{Frame}
@@ -28,13 +29,6 @@ use Rattle.op_agreement.specs.Typed.{IsVariable}
 
 -- ---- rows
 
--- what stands in front of a number of a list stands in its front, and the other way round
-pub get_take : {A : Type 0} (n : ℕ) (xs : List A) (j : ℕ) (x : A) → slice_get (take n xs) j ≡ Some x → (j < n) × (slice_get xs j ≡ Some x)
-get_take zero xs j x e = absurd cc
-get_take (suc n) [] j x e = absurd cc
-get_take (suc n) (y ∷ ys) zero x e = (omega arith, e)
-get_take (suc n) (y ∷ ys) (suc j) x e = let (low, is) = get_take n ys j x e in (omega arith, is)
-
 pub take_get : {A : Type 0} (n : ℕ) (xs : List A) (j : ℕ) → j < n → slice_get (take n xs) j ≡ slice_get xs j
 take_get zero xs j low = absurd (omega arith)
 take_get (suc n) [] j low = refl
@@ -46,14 +40,6 @@ pub get_drop : {A : Type 0} (n : ℕ) (xs : List A) (j : ℕ) → slice_get (dro
 get_drop zero xs j = let e : j ≡ 0 + j = omega arith in ap (slice_get xs) e
 get_drop (suc n) [] j = refl
 get_drop (suc n) (y ∷ ys) j = let e : suc (n + j) ≡ suc n + j = omega arith in get_drop n ys j ∙ ap (slice_get (y ∷ ys)) e
-
--- a row of a run is one of the table
-pub row_found : {A : Type 0} (table : List A) (run : Run) (j : ℕ) (x : A) → slice_get (rows table run) j ≡ Some x → (j < run.count) × (slice_get table (run.first + j) ≡ Some x)
-row_found table run j x e = let (low, is) = get_take run.count (drop run.first table) j x e in (low, sym (get_drop run.first table j) ∙ is)
-
--- and the row of the table is one of the run
-pub found_row : {A : Type 0} (table : List A) (run : Run) (j : ℕ) → j < run.count → slice_get (rows table run) j ≡ slice_get table (run.first + j)
-found_row table run j low = take_get run.count (drop run.first table) j low ∙ get_drop run.first table j
 
 -- ---- homes, one behind the other
 
@@ -70,12 +56,6 @@ register_held (Shared id) = 0
 abbrev home_or : Option Home → Home
 home_or None = Stored 0
 home_or (Some home) = home
-
--- registers are handed out in order
-room_grows : (keeping : Keeping) (size : ℕ) (room : Room) → room.register ≤ (room_by keeping size room).register
-room_grows AsGiven size room = omega arith
-room_grows InRegister size room = omega arith
-room_grows InMemory size room = omega arith
 
 module _ (core : Core) (parameters : ℕ) (roots : List Root) where
   -- a home of the variable in a row, behind some room
@@ -198,7 +178,7 @@ module _ (core : Core) (r : ℕ) (x : Routine) where
   held_by_row v q variable home = by (some_or_none (slice_get rows_here v))
     where
       value : (p : Variable) → slice_get rows_here v ≡ Some p → is_reference p.role ≡ false
-      value p is = sym (ap refers (row_found core.variables (variables_of core r) v p is).1) ∙ variable.1
+      value p is = sym (ap refers (row_of core.variables (variables_of core r) v p is).1) ∙ variable.1
 
       far : (p : Variable) → slice_get rows_here v ≡ Some p → (room : Room) → first_home.register ≤ room.register → ((v < parameters_of core r) × (q ≡ parameter v)) ⊎ ((parameters_of core r ≤ v) × (q ≡ room.register)) → InOwn core r v q ⊎ InFree core r v q
       far p is room more (inl (low, own)) = inl (record { low = low; own = own; variable = p; row = is })
@@ -224,7 +204,7 @@ module _ (core : Core) (r : ℕ) (x : Routine) where
 
       clash : HomeOf core (parameters_of core r) (roots_of x) rows_here 0 first_home (parameter v) → ⊥
       clash h =
-          let (low, found) = row_found core.variables (variables_of core r) h.row h.variable h.there in
+          let (low, found) = row_of core.variables (variables_of core r) h.row h.variable h.there in
           let zeroth : 0 + h.row ≡ h.row = omega arith in
           let other : v ≢ h.row = λ same.
           let reference : is_reference h.variable.role ≡ true = sym (ap refers found) ∙ ap (λ j. refers (slice_get core.variables ((variables_of core r).first + j))) (sym same) ∙ variable.1 in

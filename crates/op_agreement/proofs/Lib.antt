@@ -66,3 +66,4 @@ pub mod Updating
 pub mod Waiting
 pub mod WholeWords
 pub mod Writing
+pub mod Zeroing

@@ -1,6 +1,7 @@
 -- Loads, stores and looks.
 use Rattle.std.proofs.Common.{◌≡◌, ◌≤◌, ℕ, ℤ, ◌+◌, ◌*◌, List, [], ◌∷◌, ◌++◌, Option, Some, None, refl, sym, ap, ◌∙◌, subst, arith, append_assoc}
 use Rattle.std.specs.Prelude.{map, pos, true, false, nat_eq, if◌then◌else◌}
+use Rattle.std.proofs.lemmas.Bool.{and_parts}
 use Rattle.std.specs.List.{list_all}
 use Rattle.std.proofs.lemmas.Bool.Decides.{nat_tests}
 use Rattle.op_compute.proofs.Registers.{kept_none, result_set}
@@ -42,7 +43,7 @@ use Rattle.op_mir.specs.declared.path.Root.TheVariants.{Global, Local, Through, 
 use Rattle.op_mir.specs.declared.path.Root.{Root}
 use Rattle.op_mir.specs.declared.path.Step.TheVariants.{Field, Element}
 use Rattle.op_mir.specs.declared.path.Step.{Step}
-use Rattle.op_agreement.proofs.Branching.{answered, begins_here, both_true, step_here}
+use Rattle.op_agreement.proofs.Branching.{answered, begins_here, step_here}
 use Rattle.op_agreement.proofs.Cases.{behind_act}
 use Rattle.op_agreement.proofs.Computing.{number_stands, rest_above, rest_below}
 use Rattle.op_agreement.proofs.Elements.{KeptBelow}
@@ -68,11 +69,11 @@ step_composite core from to (Element of low high t) ss (same, index, each, found
 
 pub indices_in : (mir : Mir) (x : Routine) (path : Path) → path_fits mir x path ≡ true → HaveIndices x path.steps
 unfolding path_fits
-indices_in mir x path is = indices_of mir x path.steps (both_true (root_fits mir x path.root) (list_all (step_fits mir x) path.steps) is).1
+indices_in mir x path is = indices_of mir x path.steps (and_parts (root_fits mir x path.root) (list_all (step_fits mir x) path.steps) is).1
 
-module _ (g : Setting) (fit : IsFitting g) (m : MirState) (l : State) (floors : ℕ → Floor) (is : List Instruction) (id : ℕ) where
+module _ (g : Setting) (fit : IsFitting g) (m : MirState) (l : State) (floors : ℕ → Floor) (is : List Instruction) where
   abbrev NextIs : Instruction → Type 0
-  NextIs i = Next g m l floors i is id
+  NextIs i = Next g m l floors i is
 
   abbrev frame : Rattle.op_expand.specs.declared.frame.Frame.Frame
   frame = (here m floors).frame
@@ -85,9 +86,9 @@ module _ (g : Setting) (fit : IsFitting g) (m : MirState) (l : State) (floors : 
       fits.composites v variable (ap (shape_of g.core) type ∙ step_composite g.core typed.from of st ss typed.reaches)
 
   -- an error of an index
-  pub index_fails : (i : Instruction) (next : NextIs i) (least most : ℕ) (from : State) → l ≡ from → Failed g fit m l floors next.stays least most from → most + 5 ≤ most_for_one * mir_cost (managed g) m → mir_step (managed g) m ≡ record m { world = failed g.core 201 m.world; rest = rest_above g m l floors i is id next } → Comes g m l
+  pub index_fails : (i : Instruction) (next : NextIs i) (least most : ℕ) (from : State) → l ≡ from → Failed g fit m l floors next.stays least most from → most + 5 ≤ most_for_one * mir_cost (managed g) m → mir_step (managed g) m ≡ record m { world = failed g.core 201 m.world; rest = rest_above g m l floors i is next } → Comes g m l
   index_fails i next least most from same fails few step =
-      let (k, ends, stands) = error_ends g fit floors m l next.stays RangeCheck fails.h (rest_above g m l floors i is id next) in
+      let (k, ends, stands) = error_ends g fit floors m l next.stays RangeCheck fails.h (rest_above g m l floors i is next) in
       record {
         to = k;
         goes = goes_within g 1 (most_for_one * mir_cost (managed g) m) l k (goes_from g 1 l from k same (goes_then g least 5 1 from (at l fails.h (block_of g.low l.top.routine (error_block_of frame.bank RangeCheck).0)) k (omega arith) fails.goes ends)) few;
@@ -106,35 +107,35 @@ module _ (g : Setting) (fit : IsFitting g) (m : MirState) (l : State) (floors : 
         let n = number_in (m.world.memory (local m.world.depth v.0)) in
         let word : IsWordOf (l.top.registers r.0) n = subst (λ d. IsWordOf (l.top.registers r.0) (number_in (m.world.memory (local d v.0)))) (sym next.stays.depth) (a.kept.variables v.0 r.0 variable home) in
         let bank = frame.bank in
-        let code : code_for g.core g.mir frame id (Act (Load to kind (record { root = Local v; steps = [] })) landing) ≡ Move (register_of bank to) r ∷ [] = rw home refl in
-        answered g fit m l floors (Act (Load to kind (record { root = Local v; steps = [] })) landing) is id next (Move (register_of bank to) r ∷ []) to (gives n) code refl (omega arith) (λ light. light) (behind_act next.on)
+        let code : code_for g.core g.mir frame (Act (Load to kind (record { root = Local v; steps = [] })) landing) ≡ Move (register_of bank to) r ∷ [] = rw home refl in
+        answered g fit m l floors (Act (Load to kind (record { root = Local v; steps = [] })) landing) is next (Move (register_of bank to) r ∷ []) to (gives n) code refl (omega arith) (λ light. light) (behind_act next.on)
         (result_set (work_of bank) (register_of bank to) l.top.registers l.top.registers (l.top.registers r.0) n (kept_none (work_of bank) (register_of bank to) l.top.registers) word)
-        (step_here g fit m l floors (Act (Load to kind (record { root = Local v; steps = [] })) landing) is id next)
+        (step_here g fit m l floors (Act (Load to kind (record { root = Local v; steps = [] })) landing) is next)
 
-    load_placed : (path : Path) (landing : Option BlockId) (next : NextIs (Act (Load to kind path) landing)) → IsPlaced g.core (here m floors).number frame path.root → code_for g.core g.mir frame id (Act (Load to kind path) landing) ≡ place_code g.core frame near path.root path.steps (scratch_of frame.bank 0) ++ LoadWord (load_op kind) (register_of frame.bank to) (place_of g.core frame near path.root path.steps (scratch_of frame.bank 0)).base (pos (place_of g.core frame near path.root path.steps (scratch_of frame.bank 0)).offset) ∷ [] → Comes g m l
+    load_placed : (path : Path) (landing : Option BlockId) (next : NextIs (Act (Load to kind path) landing)) → IsPlaced g.core (here m floors).number frame path.root → code_for g.core g.mir frame (Act (Load to kind path) landing) ≡ place_code g.core frame near path.root path.steps (scratch_of frame.bank 0) ++ LoadWord (load_op kind) (register_of frame.bank to) (place_of g.core frame near path.root path.steps (scratch_of frame.bank 0)).base (pos (place_of g.core frame near path.root path.steps (scratch_of frame.bank 0)).offset) ∷ [] → Comes g m l
     unfolding execute perform action_fits load_fits
     load_placed path landing next placed code =
         let (of, shape, typed) = next.fine.1 in
-        let (has_to, fits_path) = both_true (has (here m floors).routine to) _ next.fine.0 in
+        let (has_to, fits_path) = and_parts (has (here m floors).routine to) _ next.fine.0 in
         let indices = indices_in g.mir (here m floors).routine path fits_path in
         let i = Act (Load to kind path) landing in
         let free = scratch_of frame.bank 0 in
         let spot = place_of g.core frame near path.root path.steps free in
         let pc = place_code g.core frame near path.root path.steps free in
-        let rest = rest_below g m l floors i is id next in
+        let rest = rest_below g m l floors i is next in
         let lw = LoadWord (load_op kind) (register_of frame.bank to) spot.base (pos spot.offset) in
-        let begins : l ≡ at l l.top.registers (pc ++ (lw ∷ rest)) = begins_here g fit m l floors i is id next (pc ++ lw ∷ []) code ∙ ap (at l l.top.registers) (append_assoc pc (lw ∷ []) rest) in
+        let begins : l ≡ at l l.top.registers (pc ++ (lw ∷ rest)) = begins_here g fit m l floors i is next (pc ++ lw ∷ []) code ∙ ap (at l l.top.registers) (append_assoc pc (lw ∷ []) rest) in
         by (place_meant m.world (view_path path)) refl begins (place_goes g fit m l floors next.stays path of near free l.top.registers (lw ∷ rest) typed placed indices (omega arith) (λ r below. refl))
       where
-        by : (o : Option Place) → place_meant m.world (view_path path) ≡ o → l ≡ at l l.top.registers (place_code g.core frame near path.root path.steps (scratch_of frame.bank 0) ++ (LoadWord (load_op kind) (register_of frame.bank to) (place_of g.core frame near path.root path.steps (scratch_of frame.bank 0)).base (pos (place_of g.core frame near path.root path.steps (scratch_of frame.bank 0)).offset) ∷ rest_below g m l floors (Act (Load to kind path) landing) is id next)) → PlaceTo g fit m l floors next.stays (fewest_steps (place_code g.core frame near path.root path.steps (scratch_of frame.bank 0))) (place_most path) (at l l.top.registers (place_code g.core frame near path.root path.steps (scratch_of frame.bank 0) ++ (LoadWord (load_op kind) (register_of frame.bank to) (place_of g.core frame near path.root path.steps (scratch_of frame.bank 0)).base (pos (place_of g.core frame near path.root path.steps (scratch_of frame.bank 0)).offset) ∷ rest_below g m l floors (Act (Load to kind path) landing) is id next))) l.top.registers (scratch_of frame.bank 0) (place_of g.core frame near path.root path.steps (scratch_of frame.bank 0)) (LoadWord (load_op kind) (register_of frame.bank to) (place_of g.core frame near path.root path.steps (scratch_of frame.bank 0)).base (pos (place_of g.core frame near path.root path.steps (scratch_of frame.bank 0)).offset) ∷ rest_below g m l floors (Act (Load to kind path) landing) is id next) next.fine.1.0 o → Comes g m l
+        by : (o : Option Place) → place_meant m.world (view_path path) ≡ o → l ≡ at l l.top.registers (place_code g.core frame near path.root path.steps (scratch_of frame.bank 0) ++ (LoadWord (load_op kind) (register_of frame.bank to) (place_of g.core frame near path.root path.steps (scratch_of frame.bank 0)).base (pos (place_of g.core frame near path.root path.steps (scratch_of frame.bank 0)).offset) ∷ rest_below g m l floors (Act (Load to kind path) landing) is next)) → PlaceTo g fit m l floors next.stays (fewest_steps (place_code g.core frame near path.root path.steps (scratch_of frame.bank 0))) (place_most path) (at l l.top.registers (place_code g.core frame near path.root path.steps (scratch_of frame.bank 0) ++ (LoadWord (load_op kind) (register_of frame.bank to) (place_of g.core frame near path.root path.steps (scratch_of frame.bank 0)).base (pos (place_of g.core frame near path.root path.steps (scratch_of frame.bank 0)).offset) ∷ rest_below g m l floors (Act (Load to kind path) landing) is next))) l.top.registers (scratch_of frame.bank 0) (place_of g.core frame near path.root path.steps (scratch_of frame.bank 0)) (LoadWord (load_op kind) (register_of frame.bank to) (place_of g.core frame near path.root path.steps (scratch_of frame.bank 0)).base (pos (place_of g.core frame near path.root path.steps (scratch_of frame.bank 0)).offset) ∷ rest_below g m l floors (Act (Load to kind path) landing) is next) next.fine.1.0 o → Comes g m l
         by None e begins fails =
-            index_fails (Act (Load to kind path) landing) next _ (place_most path) _ begins fails (afford g fit m l floors (Act (Load to kind path) landing) is id next (λ light. light) (place_most path + 5) (omega arith))
-            (step_here g fit m l floors (Act (Load to kind path) landing) is id next ∙ ap (λ o. record m { world = at_place g.core o (λ p. with_number to.0 (number_in (value_at m.world p)) m.world) m.world; rest = rest_above g m l floors (Act (Load to kind path) landing) is id next }) e)
+            index_fails (Act (Load to kind path) landing) next _ (place_most path) _ begins fails (afford g fit m l floors (Act (Load to kind path) landing) is next (λ light. light) (place_most path + 5) (omega arith))
+            (step_here g fit m l floors (Act (Load to kind path) landing) is next ∙ ap (λ o. record m { world = at_place g.core o (λ p. with_number to.0 (number_in (value_at m.world p)) m.world) m.world; rest = rest_above g m l floors (Act (Load to kind path) landing) is next }) e)
         by (Some q) e begins reached =
             let typed = next.fine.1.2 in
             let small = small_last g.core typed.from next.fine.1.0 (map view_step path.steps) typed.reaches typed.small in
             let spot = place_of g.core frame near path.root path.steps (scratch_of frame.bank 0) in
-            let rest = rest_below g m l floors (Act (Load to kind path) landing) is id next in
+            let rest = rest_below g m l floors (Act (Load to kind path) landing) is next in
             let n = number_in (value_at m.world q) in
             let (loads, word) = number_loads g fit m l floors next.stays q next.fine.1.0 kind reached.h (register_of frame.bank to) spot.base spot.offset rest next.fine.1.1 small reached.is (let low = reached.low in omega arith) in
             let v = Rattle.op_rv.specs.Step.load_value (load_op kind) l.memory (reached.h spot.base.0 + spot.offset) in
@@ -143,9 +144,9 @@ module _ (g : Setting) (fit : IsFitting g) (m : MirState) (l : State) (floors : 
               to = at l h2 rest;
               goes = goes_within g 1 (most_for_one * mir_cost (managed g) m) l (at l h2 rest)
                   (goes_from g 1 l _ (at l h2 rest) begins (goes_then g _ 1 1 _ (at l reached.h (LoadWord (load_op kind) (register_of frame.bank to) spot.base (pos spot.offset) ∷ rest)) (at l h2 rest) (omega arith) reached.goes loads))
-                  (afford g fit m l floors (Act (Load to kind path) landing) is id next (λ light. light) (place_most path + 1) (omega arith));
-              stands = subst (λ k. Stands g k (at l h2 rest)) (sym (step_here g fit m l floors (Act (Load to kind path) landing) is id next ∙ ap (λ o. record m { world = at_place g.core o (λ p. with_number to.0 (number_in (value_at m.world p)) m.world) m.world; rest = rest_above g m l floors (Act (Load to kind path) landing) is id next }) e))
-                  (number_stands g m l floors (Act (Load to kind path) landing) is id next to n h2 (behind_act next.on) (set_gives reached.h v n word reached.kept));
+                  (afford g fit m l floors (Act (Load to kind path) landing) is next (λ light. light) (place_most path + 1) (omega arith));
+              stands = subst (λ k. Stands g k (at l h2 rest)) (sym (step_here g fit m l floors (Act (Load to kind path) landing) is next ∙ ap (λ o. record m { world = at_place g.core o (λ p. with_number to.0 (number_in (value_at m.world p)) m.world) m.world; rest = rest_above g m l floors (Act (Load to kind path) landing) is next }) e))
+                  (number_stands g m l floors (Act (Load to kind path) landing) is next to n h2 (behind_act next.on) (set_gives reached.h v n word reached.kept));
             }
           where
             set_gives : (h : ℕ → ℕ) (v : ℕ) (n : ℤ) → IsWordOf v n → KeptBelow (scratch_of frame.bank 0).0 l.top.registers h → Gives (work_of frame.bank) (register_of frame.bank to) l.top.registers (λ r. if nat_eq r (register_of frame.bank to).0 then v else h r) n

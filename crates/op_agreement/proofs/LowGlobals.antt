@@ -3,13 +3,12 @@ use Rattle.std.proofs.Common.{◌≡◌, ◌<◌, ℕ, zero, suc, ◌+◌, Bool,
 use Rattle.std.proofs.lemmas.Bool.Decides.{nat_tests}
 use Rattle.std.proofs.lemmas.List.{length-replicate, length-set}
 use Rattle.std.specs.List.{list_any}
+use Rattle.op_base.proofs.Lists.{slice_get-behind, stays_front}
 use Rattle.op_core.proofs.Rows.{set_there}
-use Rattle.op_core.proofs.OneType.{stays_front}
 use Rattle.op_core.specs.declared.ids.VariableId.{VariableId}
 use Rattle.op_core.specs.declared.program.Core.{Core}
 use Rattle.op_expand.specs.Programs.{global_of, globals_in, low_of, no_bytes, stack_global, with_global}
 use Rattle.op_rv.specs.declared.objects.GlobalVariable.{GlobalVariable}
-use Rattle.op_agreement.proofs.Expanding.{behind_front}
 use Rattle.op_agreement.specs.Settings.{Setting}
 use Rattle.op_agreement.specs.Typed.{IsGlobal}
 
@@ -78,4 +77,4 @@ module _ (g : Setting) (low : g.low ≡ low_of g.core g.mir g.stack) where
   stack_made =
       let count : length (globals_in g.core) + 0 ≡ length g.core.variables = omega (arith, globals_count g.core) in
       ap (λ l. slice_get l.globals (length g.core.variables)) low
-      ∙ subst (λ n. slice_get (globals_in g.core ++ stack_global g.stack ∷ []) n ≡ Some (stack_global g.stack)) count (behind_front (globals_in g.core) (stack_global g.stack ∷ []) 0)
+      ∙ subst (λ n. slice_get (globals_in g.core ++ stack_global g.stack ∷ []) n ≡ Some (stack_global g.stack)) count (slice_get-behind (globals_in g.core) (stack_global g.stack ∷ []) 0)

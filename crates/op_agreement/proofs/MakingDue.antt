@@ -42,7 +42,7 @@ drop_first [] ys y (suc n) e = absurd cc
 drop_first (x ∷ xs) ys y zero e = let first : x ≡ y = cc in let others : xs ≡ ys = cc in (ap (λ z. Some z) first, omega arith, others)
 drop_first (x ∷ xs) ys y (suc n) e = let rest = drop_first xs ys y n e in (rest.0, omega (arith, rest.1), rest.2)
 
-module _ (g : Setting) (fit : IsFitting g) (m : MirState) (l : State) (floors : ℕ → Floor) (is : List Instruction) (id : ℕ) (f : RoutineId) (due : AreStillDue g m) (next : Next g m l floors (MakeDue f) is id) where
+module _ (g : Setting) (fit : IsFitting g) (m : MirState) (l : State) (floors : ℕ → Floor) (is : List Instruction) (f : RoutineId) (due : AreStillDue g m) (next : Next g m l floors (MakeDue f) is) where
   closes : has_closing g.core ≡ true
   closes = next.fine.1
 
@@ -60,13 +60,13 @@ module _ (g : Setting) (fit : IsFitting g) (m : MirState) (l : State) (floors : 
       by (c ∷ cs) (lc ∷ lcs) above (inr (below, under, spare, status, a, ended, others, are, charge, at_, more, waits, activation, callers)) = let own = main in let low = waits.low in absurd (omega arith)
 
   -- it is the first one that is not due yet
-  pub first_is : f ∷ dues_in (rest_above g m l floors (MakeDue f) is id next) ≡ drop (length m.pending) (finalizations g.core)
+  pub first_is : f ∷ dues_in (rest_above g m l floors (MakeDue f) is next) ≡ drop (length m.pending) (finalizations g.core)
   first_is =
       let open_ : NoneCloses m.frames m.callers = subst (NoneCloses m.frames) (sym main_alone) next.frames in
       sym (ap (λ cs. dues_in (lowest_rest m.rest cs)) main_alone ∙ ap dues_in next.above) ∙ due open_
 
-  abbrev found : (slice_get (finalizations g.core) (length m.pending) ≡ Some f) × (length m.pending < length (finalizations g.core)) × (drop (suc (length m.pending)) (finalizations g.core) ≡ dues_in (rest_above g m l floors (MakeDue f) is id next))
-  found = drop_first (finalizations g.core) (dues_in (rest_above g m l floors (MakeDue f) is id next)) f (length m.pending) (sym first_is)
+  abbrev found : (slice_get (finalizations g.core) (length m.pending) ≡ Some f) × (length m.pending < length (finalizations g.core)) × (drop (suc (length m.pending)) (finalizations g.core) ≡ dues_in (rest_above g m l floors (MakeDue f) is next))
+  found = drop_first (finalizations g.core) (dues_in (rest_above g m l floors (MakeDue f) is next)) f (length m.pending) (sym first_is)
 
   abbrev more : List Pending
   more = finalize f ∷ m.pending
@@ -111,7 +111,7 @@ module _ (g : Setting) (fit : IsFitting g) (m : MirState) (l : State) (floors : 
       ap₂ (λ b c. if b then g.stack + suc (length m.pending) else (if b then g.stack + length m.pending else (if c then due_address g else l.top.registers r))) u t
 
   abbrev rest : List LowInstruction
-  rest = rest_below g m l floors (MakeDue f) is id next
+  rest = rest_below g m l floors (MakeDue f) is next
 
   adds : Goes g 1 1 (at l loaded (AluImm Addi count count (pos 1) ∷ Store Sw count word (pos 0) ∷ rest)) (at l added (Store Sw count word (pos 0) ∷ rest))
   unfolding act
@@ -124,7 +124,7 @@ module _ (g : Setting) (fit : IsFitting g) (m : MirState) (l : State) (floors : 
       let sum : (loaded count.0 + 1) % 2 ^ 32 ≡ g.stack + suc (length m.pending) = omega (arith, low, few, had, most) in
       goes_to g 1 (at l loaded (AluImm Addi count count (pos 1) ∷ Store Sw count word (pos 0) ∷ rest)) (act g.low g.placement (AluImm Addi count count (pos 1)) (at l loaded (Store Sw count word (pos 0) ∷ rest))) (at l added (Store Sw count word (pos 0) ∷ rest))
       (ap (λ n. at l (λ (r : ℕ). if nat_eq r count.0 then n else loaded r) (Store Sw count word (pos 0) ∷ rest)) sum)
-      (goes_one g l loaded (AluImm Addi count count (pos 1)) (Store Sw count word (pos 0) ∷ rest))
+      (goes_one g l loaded (AluImm Addi count count (pos 1)) (Store Sw count word (pos 0) ∷ rest) refl)
 
   pub make_due_comes : Comes g m l
   unfolding code_for execute
@@ -138,23 +138,23 @@ module _ (g : Setting) (fit : IsFitting g) (m : MirState) (l : State) (floors : 
       let adding = AluImm Addi count count (pos 1) ∷ storing in
       let loading = Load Lw count word (pos 0) ∷ adding in
       let from = at l l.top.registers (Address word (due_word g.core) ∷ loading) in
-      let m2 : MirState = record m { rest = rest_above g m l floors (MakeDue f) is id next; pending = finalize f ∷ m.pending } in
+      let m2 : MirState = record m { rest = rest_above g m l floors (MakeDue f) is next; pending = finalize f ∷ m.pending } in
       let one = due_addressed g fit l bottom l.top.registers word loading in
       let two = due_loads g fit l bottom addressed count word adding (g.stack + length m.pending) word_there (s.due closes) in
       let four = due_stores g fit l bottom added count word rest (g.stack + length more) word_stays count_there in
       record {
         to = k;
-        goes = goes_from g 1 l from k (begins_here g fit m l floors (MakeDue f) is id next (due_code g.core (here m floors).frame) refl)
+        goes = goes_from g 1 l from k (begins_here g fit m l floors (MakeDue f) is next (due_code g.core (here m floors).frame) refl)
             (goes_within g 1 (most_for_one * mir_cost (managed g) m) from k
             (goes_then g 1 1 1 from (at l addressed loading) k (omega arith) one
             (goes_then g 1 1 1 (at l addressed loading) (at l loaded adding) k (omega arith) two
             (goes_then g 1 1 1 (at l loaded adding) (at l added storing) k (omega arith) adds four)))
-            (afford_light g fit m l floors (MakeDue f) is id next 4 (omega arith)));
-        stands = subst (λ x. Stands g x k) (sym (step_here g fit m l floors (MakeDue f) is id next)) (stands_on g m2 k next.ending next.frames (record {
+            (afford_light g fit m l floors (MakeDue f) is next 4 (omega arith)));
+        stands = subst (λ x. Stands g x k) (sym (step_here g fit m l floors (MakeDue f) is next)) (stands_on g m2 k next.ending next.frames (record {
           floors = floors;
-          stays = stays_counted g fit closes floors m l s more more_pending (rest_above g m l floors (MakeDue f) is id next) added rest
+          stays = stays_counted g fit closes floors m l s more more_pending (rest_above g m l floors (MakeDue f) is next) added rest
               (all_variables_kept g (here m floors) fits l.top.registers added kept)
               (temporaries_kept g (here m floors) fits m.world.temps l.top.registers added kept s.activation.kept.temporaries);
-          position = rest_stands g m l floors (MakeDue f) is id next (behind_act next.on);
+          position = rest_stands g m l floors (MakeDue f) is next (behind_act next.on);
         }));
       }

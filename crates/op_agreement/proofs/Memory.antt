@@ -1,21 +1,18 @@
 -- Numbers in memory: which may be loaded and stored, and what that is to values.
 use Rattle.std.proofs.Common.{◌≡◌, ◌≤◌, ◌<◌, ◌⊎◌, inl, inr, ℕ, ℤ, zero, suc, ◌+◌, ◌-◌, List, ◌∷◌, length, refl, sym, ap, ap₂, ◌∙◌, subst, arith, get_or}
-use Rattle.std.specs.Prelude.{◌^◌, ◌%◌, map, pos, negsuc, Bool, true, false, ◌&&◌, nat_eq, nat_le, nat_lt, if◌then◌else◌}
-use Rattle.std.specs.Int.{bytes_low_first, cast_signed, w8, w16, w32}
-use Rattle.std.specs.Int.RustNames.{FitsSigned}
-use Rattle.std.proofs.lemmas.Int.{to_z_pos}
+use Rattle.std.specs.Prelude.{◌^◌, ◌%◌, pos, Bool, true, false, ◌&&◌, nat_eq, nat_le, nat_lt, if◌then◌else◌}
+use Rattle.std.specs.Int.{bytes_low_first, cast_signed, w8, w16}
 use Rattle.std.proofs.lemmas.Bool.{cond-true, cases_lt}
 use Rattle.std.proofs.lemmas.Bool.Decides.{nat_tests}
 use Rattle.op_compute.proofs.Words.{number_is}
 use Rattle.op_compute.specs.Meaning.{IsWordOf}
 use Rattle.op_compute.specs.Straight.{at}
 use Rattle.op_constants.proofs.Lying.{leads_aligned, leads_within, part_lies}
-use Rattle.op_constants.proofs.Stores.{stored}
+use Rattle.op_constants.proofs.Stores.{byte_fits, half_fits, stored}
 use Rattle.op_constants.proofs.TypesArranged.{type_is_arranged}
-use Rattle.op_constants.proofs.Units.{coarser}
-use Rattle.op_constants.specs.Arranged.{IsSmall, IsUnit}
+use Rattle.op_constants.specs.Arranged.{IsSmall}
 use Rattle.op_constants.specs.Lies.{IsAligned, Lies, arrangement_by, arrangement_of, arrangement_within, bytes_in, load_op as load_meant, number_there, one_number, store_op as store_meant}
-use Rattle.op_constants.specs.Offsets.{alignment_in, size_in}
+use Rattle.op_constants.specs.Offsets.{size_in}
 use Rattle.op_core.specs.Sizes.{integer_size, type_at}
 use Rattle.op_core.specs.declared.ids.TypeId.{TypeId}
 use Rattle.op_core.specs.declared.program.Core.{Core}
@@ -101,26 +98,6 @@ kind_bytes Unsigned16 v (suc zero) = omega arith
 kind_bytes Unsigned16 v (suc (suc k)) = omega arith
 kind_bytes Signed32 v k = four-bounded v k
 
-byte_fits : (n : ℕ) → n < 2 ^ 8 → FitsSigned w32 (cast_signed w8 n)
-byte_fits n fits = by (cases_lt n 128)
-  where
-    by : (n < 128) ⊎ (128 ≤ n) → FitsSigned w32 (cast_signed w8 n)
-    by (inl low) = subst (FitsSigned w32) (sym (to_z_pos w8 n low)) (record { sfits = omega arith })
-    by (inr high) =
-        let t : nat_lt n 128 ≡ false = grind (arith, nat_tests) in
-        let e : cast_signed w8 n ≡ negsuc (256 - suc n) = ap (λ b. if b then pos n else negsuc (256 - suc n)) t in
-        subst (FitsSigned w32) (sym e) (record { sfits = omega arith })
-
-half_fits : (n : ℕ) → n < 2 ^ 16 → FitsSigned w32 (cast_signed w16 n)
-half_fits n fits = by (cases_lt n 32768)
-  where
-    by : (n < 32768) ⊎ (32768 ≤ n) → FitsSigned w32 (cast_signed w16 n)
-    by (inl low) = subst (FitsSigned w32) (sym (to_z_pos w16 n low)) (record { sfits = omega arith })
-    by (inr high) =
-        let t : nat_lt n 32768 ≡ false = grind (arith, nat_tests) in
-        let e : cast_signed w16 n ≡ negsuc (65536 - suc n) = ap (λ b. if b then pos n else negsuc (65536 - suc n)) t in
-        subst (FitsSigned w32) (sym e) (record { sfits = omega arith })
-
 -- what is loaded is a word
 loaded_word : (kind : IntegerKind) (memory : ℕ → ℕ) (a : ℕ) → ((x : ℕ) → a ≤ x → x < a + integer_size kind → memory x < 2 ^ 8) → load_value (load_op kind) memory a < 2 ^ 32
 loaded_word Signed8 memory a bytes = (number_is (cast_signed w8 (memory a)) (byte_fits (memory a) (bytes a (omega arith) (omega arith)))).bound
@@ -170,11 +147,6 @@ may_access right limit a n aligned each below =
 plain_offset : (b off : ℕ) → b + off < 2 ^ 32 → offset_from b (pos off) ≡ b + off
 plain_offset b off low = omega arith
 
-unit_below : (a : ℕ) → IsUnit a → a ≤ 4
-unit_below a (inl e) = omega arith
-unit_below a (inr (inl e)) = omega arith
-unit_below a (inr (inr e)) = omega arith
-
 module _ (g : Setting) (fit : IsFitting g) (m : MirState) (l : State) (floors : ℕ → Floor) (s : Stays g floors m l) where
   -- a place of some bytes that is at an address: the bytes there
   pub record PlaceStands (q : Place) (of : TypeId) (a : ℕ) : Type 0 where
@@ -199,7 +171,7 @@ module _ (g : Setting) (fit : IsFitting g) (m : MirState) (l : State) (floors : 
           let a_size = whole.size in
           let b_size = part.size in
           let below = stands.below in
-          let aligned = leads_aligned (arrangement_of g.core (type_held g.core floors q.holder)) (arrangement_of g.core of) q.path (address_of g floors q.holder) is.distance (whole.aligned (address_of g floors q.holder) (coarser (alignment_in g.core (type_held g.core floors q.holder)) 4 (address_of g floors q.holder) whole.unit (inr (inr refl)) (unit_below (alignment_in g.core (type_held g.core floors q.holder)) whole.unit) stands.words)) is.leads in
+          let aligned = leads_aligned (arrangement_of g.core (type_held g.core floors q.holder)) (arrangement_of g.core of) q.path (address_of g floors q.holder) is.distance (whole.aligned (address_of g floors q.holder) (stands.aligned (omega arith))) is.leads in
           let lies = part_lies (arrangement_of g.core (type_held g.core floors q.holder)) (arrangement_of g.core of) q.path (m.world.memory q.holder) l.memory (address_of g floors q.holder) is.distance is.leads (s.lie q.holder is.live) in
           record {
             is_at = is;
@@ -232,7 +204,7 @@ module _ (g : Setting) (fit : IsFitting g) (m : MirState) (l : State) (floors : 
       let v = load_value (load_op kind) l.memory a in (
         goes_to g 1 (at l h (Load (load_op kind) to base (pos off) ∷ rest)) (act g.low g.placement (Load (load_op kind) to base (pos off)) (at l h rest)) (at l (λ r. if nat_eq r to.0 then v else h r) rest)
             (ap (λ x. load g.placement (load_op kind) to x (at l h rest)) (plain_offset (h base.0) off low) ∙ cond-true (can_access (usable g.placement.rights.readable (at l h rest)) a (load_size_of (load_op kind))) (keep to v (at l h rest)) (bad (at l h rest)) can)
-            (goes_one g l h (Load (load_op kind) to base (pos off)) rest),
+            (goes_one g l h (Load (load_op kind) to base (pos off)) rest refl),
         record { number = ap (λ op. signed (load_value op l.memory a)) (same_load kind) ∙ sym lies; bound = loaded_word kind l.memory a (λ x from to. s.bytes x (omega arith)) },
       )
 
@@ -264,7 +236,7 @@ module _ (g : Setting) (fit : IsFitting g) (m : MirState) (l : State) (floors : 
         memory = memory;
         goes = goes_to g 1 (at l h (Store (store_op kind) from base (pos off) ∷ rest)) (act g.low g.placement (Store (store_op kind) from base (pos off)) (at l h rest)) (record (at l h rest) { memory = memory })
             (ap (λ x. store g.placement (store_op kind) (h from.0) x (at l h rest)) (plain_offset (h base.0) off low) ∙ cond-true (can_access (usable g.placement.rights.writable (at l h rest)) a (store_size_of (store_op kind))) (record (at l h rest) { memory = memory }) (bad (at l h rest)) can)
-            (goes_one g l h (Store (store_op kind) from base (pos off)) rest);
+            (goes_one g l h (Store (store_op kind) from base (pos off)) rest refl);
         changed = λ x less far. with_bytes-outside l.memory a bytes x (λ from to. outside x (a + length bytes) a (size_in g.core of) far from to (omega arith));
         bytes = bounded_below l.limit l.memory a bytes s.bytes (kind_bytes kind (h from.0));
         lies = subst (λ r. Lies r (number (low_bits_of kind z)) memory a) (sym (number_arranged g.core of kind shape))

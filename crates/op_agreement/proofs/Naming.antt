@@ -4,11 +4,13 @@ use Rattle.std.proofs.lemmas.Bool.{eqb-true}
 use Rattle.std.proofs.lemmas.List.Elements.{All-cons, All-head, All-nil, All-tail}
 use Rattle.std.proofs.lemmas.List.Folds.{list_any-append}
 use Rattle.std.specs.List.{All, list_any}
+use Rattle.op_base.proofs.Tests.{or_second}
 use Rattle.op_constants.specs.Arranged.{IsSmall}
 use Rattle.op_core.specs.Rows.{rows}
 use Rattle.op_core.specs.declared.ids.TypeId.{TypeId}
 use Rattle.op_core.specs.declared.program.Core.{Core}
 use Rattle.op_core.specs.declared.routine.Variable.{Variable}
+use Rattle.op_expand.proofs.RoomLemmas.{temporary_is}
 use Rattle.op_expand.specs.Frames.{parameters_of}
 use Rattle.op_expand.specs.Homes.{is_one_root, roots_of, with_action, with_block, with_given, with_instruction, with_place, with_receiver, with_root, with_temporary}
 use Rattle.op_meaning.specs.Expressions.{result_of}
@@ -30,7 +32,6 @@ use Rattle.op_mir.specs.declared.path.Path.{Path}
 use Rattle.op_mir.specs.declared.path.Root.TheVariants.{Global, Local, Through, Temporary}
 use Rattle.op_mir.specs.declared.path.Root.{Root}
 use Rattle.op_agreement.proofs.Places.{small_first}
-use Rattle.op_agreement.proofs.Rooms.{any_late, temporary_is}
 use Rattle.op_agreement.specs.Framing.{AreSmallResults, HasVariables, MayAct, MayBeGiven, MayBeNamed, MayReceive, NamesFit}
 use Rattle.op_agreement.specs.Typed.{AreSmall, AreTypedGiven, IsFine, IsTypedAction, IsTypedGiven, IsTypedReceiver, IsVariable, PathTo, RootIs}
 
@@ -63,7 +64,7 @@ module _ (core : Core) (r : ℕ) where
       by : (b : Bool) → list_any (is_one_root root) roots ≡ b → MayBeNamed core r root
       by true e = all root e
       by false e =
-          let last : list_any (is_one_root root) (s ∷ []) ≡ true = any_late (list_any (is_one_root root) roots) (list_any (is_one_root root) (s ∷ [])) e (sym (list_any-append (is_one_root root) roots (s ∷ [])) ∙ h) in
+          let last : list_any (is_one_root root) (s ∷ []) ≡ true = or_second (list_any (is_one_root root) roots) (list_any (is_one_root root) (s ∷ [])) e (sym (list_any-append (is_one_root root) roots (s ∷ [])) ∙ h) in
           subst (MayBeNamed core r) (root_is root s (or_nothing (is_one_root root s) last)) may
 
   -- naming what may be named: a root, those of operands, of an instruction, of code

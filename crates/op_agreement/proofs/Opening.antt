@@ -4,9 +4,9 @@ use Rattle.std.specs.Prelude.{map, true, false, nat_eq, slice_get, if◌then◌e
 use Rattle.std.proofs.lemmas.Bool.Decides.{nat_tests}
 use Rattle.std.proofs.lemmas.List.Sums.{sum_by-cons}
 use Rattle.std.specs.List.{sum_by}
-use Rattle.op_constants.proofs.TypesArranged.{some_at}
 use Rattle.op_constants.specs.Offsets.{size_in}
 use Rattle.op_constants.specs.Shapes.{is_composite}
+use Rattle.op_core.proofs.Rows.{there_is}
 use Rattle.op_expand.specs.Calls.{runtime}
 use Rattle.op_expand.specs.Frames.{frame_of}
 use Rattle.op_expand.specs.Routines.{most_charge}
@@ -81,13 +81,13 @@ floor_there floors depth f = let t : nat_eq depth depth ≡ true = grind (arith,
 pub floors_below : (floors : ℕ → Floor) (depth : ℕ) (f : Floor) → SameFloors floors (with_floor floors (suc depth) f) depth
 floors_below floors depth f d low = let t : nat_eq d (suc depth) ≡ false = grind (arith, nat_tests) in ap (λ b. if b then f else floors d) t
 
-module _ (g : Setting) (fit : IsFitting g) (m : MirState) (l : State) (floors : ℕ → Floor) (callee : RoutineId) (call : Operands) (is : List Instruction) (id : ℕ) (next : Next g m l floors (Call callee call) is id) (b : Begins g m l floors callee.0 call (rest_below g m l floors (Call callee call) is id next)) where
+module _ (g : Setting) (fit : IsFitting g) (m : MirState) (l : State) (floors : ℕ → Floor) (callee : RoutineId) (call : Operands) (is : List Instruction) (next : Next g m l floors (Call callee call) is) (b : Begins g m l floors callee.0 call (rest_below g m l floors (Call callee call) is next)) where
   -- the caller above, and the one below
   abbrev pub caller_above : MirCaller
-  caller_above = mir_caller_of (record m { rest = rest_above g m l floors (Call callee call) is id next }) (view_receiver call.receiver)
+  caller_above = mir_caller_of (record m { rest = rest_above g m l floors (Call callee call) is next }) (view_receiver call.receiver)
 
   abbrev pub caller_below : Caller
-  caller_below = record { activation = record l.top { registers = b.registers; now = rest_below g m l floors (Call callee call) is id next }; to = b.to; landing = None }
+  caller_below = record { activation = record l.top { registers = b.registers; now = rest_below g m l floors (Call callee call) is next }; to = b.to; landing = None }
 
   -- With floors that are the same up to the present depth, and values that are, the caller and those below it stand as callers of the routine
   -- that begins.
@@ -121,8 +121,8 @@ module _ (g : Setting) (fit : IsFitting g) (m : MirState) (l : State) (floors : 
   pub begun_step : mir_step (managed g) m ≡ begun_above
   unfolding execute
   begun_step =
-      let behind = record m { rest = rest_above g m l floors (Call callee call) is id next } in
-      step_here g fit m l floors (Call callee call) is id next
+      let behind = record m { rest = rest_above g m l floors (Call callee call) is next } in
+      step_here g fit m l floors (Call callee call) is next
       ∙ ap (λ o. mir_called_with (managed g) callee.0 (view_receiver call.receiver) o behind) b.handed
       ∙ ap (λ t. if t then mir_fails (managed g) 202 behind else begun_in (entered (tables (managed g)) callee.0 b.given m.world)) b.charged
       ∙ ap begun_in (entered_is g.core (tables (managed g)) refl callee.0 b.given m.world ∙ ap (λ d. world_begun g.core callee.0 (suc d) b.given m.world) next.stays.depth)
@@ -196,19 +196,19 @@ module _ (g : Setting) (fit : IsFitting g) (m : MirState) (l : State) (floors : 
         }
 
     -- what the call costs at least
-    call_costs : 1 + bytes_given g call + charged g fit m l floors (Call callee call) is id next + (managed g).charge callee.0 ≤ mir_cost (managed g) m
+    call_costs : 1 + bytes_given g call + charged g fit m l floors (Call callee call) is next + (managed g).charge callee.0 ≤ mir_cost (managed g) m
     call_costs =
         let deeper : nat_lt (length m.callers) (length (caller_above ∷ m.callers)) ≡ true = grind (arith, nat_tests) in
         let entered : charge_between (managed g).charge (length m.callers) callee.0 (length (caller_above ∷ m.callers)) ≡ (managed g).charge callee.0 = ap (λ b. if b then (managed g).charge callee.0 else 0) deeper in
-        let cost : mir_cost (managed g) m ≡ mir_effort (managed g) m begun_above = cost_is g fit m l floors (Call callee call) is id next ∙ ap (mir_effort (managed g) m) begun_step in
-        let bytes = bytes_are g fit m l floors (Call callee call) is id next in
+        let cost : mir_cost (managed g) m ≡ mir_effort (managed g) m begun_above = cost_is g fit m l floors (Call callee call) is next ∙ ap (mir_effort (managed g) m) begun_step in
+        let bytes = bytes_are g fit m l floors (Call callee call) is next in
         omega arith
 
     -- all that it costs low code is paid by that
     begun_costs : begins_most g callee.0 call + sum_by (receive_most g.core) (parameter_rows g.core (floors_new (suc (length m.callers))).number) ≤ most_for_one * mir_cost (managed g) m
-    begun_costs = by (given_paid g fit m l floors callee call is id next)
+    begun_costs = by (given_paid g fit m l floors callee call is next)
       where
-        by : (length call.given ≡ 0) ⊎ (256 ≤ charged g fit m l floors (Call callee call) is id next) → begins_most g callee.0 call + sum_by (receive_most g.core) (parameter_rows g.core (floors_new (suc (length m.callers))).number) ≤ most_for_one * mir_cost (managed g) m
+        by : (length call.given ≡ 0) ⊎ (256 ≤ charged g fit m l floors (Call callee call) is next) → begins_most g callee.0 call + sum_by (receive_most g.core) (parameter_rows g.core (floors_new (suc (length m.callers))).number) ≤ most_for_one * mir_cost (managed g) m
         by paid =
             let rows : sum_by (receive_most g.core) (parameter_rows g.core (floors_new (suc (length m.callers))).number) ≡ sum_by (receive_most g.core) (parameter_rows g.core callee.0) = ap (λ (f : Floor). sum_by (receive_most g.core) (parameter_rows g.core f.number)) there_new in
             let received = rows_cost g.core (here m floors).number call.given (parameter_rows g.core callee.0) next.fine.3.gives in
@@ -218,10 +218,10 @@ module _ (g : Setting) (fit : IsFitting g) (m : MirState) (l : State) (floors : 
             let some = fits.charged low in
             let charge : (managed g).charge callee.0 ≡ x.charge = ap charge_in found in
             let cost = call_costs in
-            let few = few_given g fit m l floors callee call is id next in
-            either paid (begins_most g callee.0 call + sum_by (receive_most g.core) (parameter_rows g.core (floors_new (suc (length m.callers))).number)) (length call.given) (bytes_given g call) (charged g fit m l floors (Call callee call) is id next) x.charge (mir_cost (managed g) m) (omega arith) few some (omega arith) refl refl
+            let few = few_given g fit m l floors callee call is next in
+            either paid (begins_most g callee.0 call + sum_by (receive_most g.core) (parameter_rows g.core (floors_new (suc (length m.callers))).number)) (length call.given) (bytes_given g call) (charged g fit m l floors (Call callee call) is next) x.charge (mir_cost (managed g) m) (omega arith) few some (omega arith) refl refl
           where
-            either : (length call.given ≡ 0) ⊎ (256 ≤ charged g fit m l floors (Call callee call) is id next) → (n many bytes under entered cost : ℕ) → n ≤ 9 + 199 * many + 8 * bytes + entered → many ≤ 64 → 256 ≤ entered → 1 + bytes + under + entered ≤ cost → (many ≡ length call.given) → (under ≡ charged g fit m l floors (Call callee call) is id next) → n ≤ most_for_one * cost
+            either : (length call.given ≡ 0) ⊎ (256 ≤ charged g fit m l floors (Call callee call) is next) → (n many bytes under entered cost : ℕ) → n ≤ 9 + 199 * many + 8 * bytes + entered → many ≤ 64 → 256 ≤ entered → 1 + bytes + under + entered ≤ cost → (many ≡ length call.given) → (under ≡ charged g fit m l floors (Call callee call) is next) → n ≤ most_for_one * cost
             either (inl none) n many bytes under entered cost most few some paid same own = omega arith
             either (inr more) n many bytes under entered cost most few some paid same own = omega arith
 
@@ -229,7 +229,7 @@ module _ (g : Setting) (fit : IsFitting g) (m : MirState) (l : State) (floors : 
     comes_by : CallerWaits → Comes g m l
     comes_by waits =
         let first = b.registers 0 - (managed g).charge callee.0 in
-        let begun = begun_below g callee.0 b.registers (rest_below g m l floors (Call callee call) is id next) b.to (first ∷ b.result ∷ b.words) l in
+        let begun = begun_below g callee.0 b.registers (rest_below g m l floors (Call callee call) is next) b.to (first ∷ b.result ∷ b.words) l in
         let receives : Receives g (Stands g begun_above) (sum_by (receive_most g.core) (parameter_rows g.core (floors_new (suc (length m.callers))).number)) begun = begun_stands g fit m l floors floors_new callee.0 b.given caller_above (caller_below ∷ l.callers) l.room first b.result b.words (enters waits) next.ending in
         record {
           to = receives.to;
@@ -239,4 +239,4 @@ module _ (g : Setting) (fit : IsFitting g) (m : MirState) (l : State) (floors : 
 
   -- low code comes to where the routine begins, and behind its parameters states stand for one another again
   pub begins_comes : CallerWaits → Comes g m l
-  begins_comes waits = let (x, there) = some_at g.mir.routines callee.0 next.fine.0 in comes_by x there waits
+  begins_comes waits = let (x, there) = there_is g.mir.routines callee.0 next.fine.0 in comes_by x there waits

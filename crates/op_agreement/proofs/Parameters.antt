@@ -1,6 +1,7 @@
 -- What an activation has when it begins: its parameters, and of all else what it had.
 use Rattle.std.proofs.Common.{◌≡◌, ◌≤◌, ◌<◌, ◌⊎◌, inl, inr, ℕ, zero, suc, ◌+◌, List, [], ◌∷◌, length, Some, refl, sym, ap, ap₂, ◌∙◌, subst, arith}
-use Rattle.std.specs.Prelude.{◌^◌, Bool, true, false, ◌&&◌, nat_eq, slice_get, slice_index, if◌then◌else◌}
+use Rattle.std.specs.Prelude.{◌^◌, true, false, ◌&&◌, nat_eq, slice_get, slice_index, if◌then◌else◌}
+use Rattle.std.proofs.Math.Bool.{and-false}
 use Rattle.std.proofs.lemmas.Bool.Decides.{nat_tests}
 use Rattle.op_core.specs.declared.routine.Variable.{Variable}
 use Rattle.op_meaning.specs.Calls.{Handed, a_value, a_place, given_all, given_one}
@@ -44,14 +45,9 @@ both_same d v =
     let b : nat_eq v v ≡ true = grind (arith, nat_tests) in
     ap₂ (λ x y. x && y) a b
 
--- where the second is false
-pub and_false : (b : Bool) → (b && false) ≡ false
-and_false true = refl
-and_false false = refl
-
 -- other variables of a level
 pub second_differs : (e d v u : ℕ) → (v ≡ u → ⊥) → (nat_eq e d && nat_eq v u) ≡ false
-second_differs e d v u other = let b : nat_eq v u ≡ false = grind (arith, nat_tests) in ap (λ y. nat_eq e d && y) b ∙ and_false (nat_eq e d)
+second_differs e d v u other = let b : nat_eq v u ≡ false = grind (arith, nat_tests) in ap (λ y. nat_eq e d && y) b ∙ and-false (nat_eq e d)
 
 -- another level
 pub first_differs : (e d v u : ℕ) → (e ≡ d → ⊥) → (nat_eq e d && nat_eq v u) ≡ false

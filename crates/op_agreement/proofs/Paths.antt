@@ -37,7 +37,7 @@ use Rattle.op_rt_text.specs.Names.{register}
 use Rattle.op_rv.specs.declared.symbol.Symbol.TheVariants.{Global as GlobalSymbol}
 use Rattle.op_agreement.proofs.Charting.{live_stands}
 use Rattle.op_agreement.proofs.Elements.{KeptBelow}
-use Rattle.op_agreement.proofs.Going.{Goes, GoesTo, cost_of, goes_from, goes_none, goes_one, goes_straight, goes_then, goes_to, goes_within}
+use Rattle.op_agreement.proofs.Going.{Goes, GoesTo, cost_of, goes_from, goes_none, goes_one, goes_straight, goes_then, goes_to, goes_within, is_read_instruction}
 use Rattle.op_agreement.proofs.Lengths.{tail_short}
 use Rattle.op_agreement.proofs.Places.{HaveIndices, Kept, reach_then, reached_behind, small_first, small_last, spot_behind, steps_then}
 use Rattle.op_agreement.proofs.Standing.{here}
@@ -92,8 +92,8 @@ module _ (g : Setting) (fit : IsFitting g) (m : MirState) (l : State) (floors : 
     pub more : free.0 ≤ (home_spot free home).free.0
 
   -- a register has become the address
-  address_goes : (f : ℕ → ℕ) (free : VirtualRegister) (i : Instruction) (code : List Instruction) (v : ℕ) → act g.low g.placement i (at l f code) ≡ at l (put f free v) code → Goes g 1 (cost_of g (at l f (i ∷ code)) i) (at l f (i ∷ code)) (at l (put f free v) code)
-  address_goes f free i code v does = (goes_to g 1 (at l f (i ∷ code)) (act g.low g.placement i (at l f code)) (at l (put f free v) code) does (goes_one g l f i code))
+  address_goes : (f : ℕ → ℕ) (free : VirtualRegister) (i : Instruction) (code : List Instruction) (v : ℕ) → act g.low g.placement i (at l f code) ≡ at l (put f free v) code → is_read_instruction i ≡ false → Goes g 1 (cost_of g (at l f (i ∷ code)) i) (at l f (i ∷ code)) (at l (put f free v) code)
+  address_goes f free i code v does unread = (goes_to g 1 (at l f (i ∷ code)) (act g.low g.placement i (at l f code)) (at l (put f free v) code) does (goes_one g l f i code unread))
 
   plus_none : (a : ℕ) → a ≡ a + 0
   plus_none a = omega arith
@@ -129,7 +129,7 @@ module _ (g : Setting) (fit : IsFitting g) (m : MirState) (l : State) (floors : 
       by true e = record {
         h = put f free ((here m floors).base + offset);
         goes = subst (λ c. Goes g (fewest_steps c) 1 (at l f (c ++ code)) (at l (put f free ((here m floors).base + offset)) code)) (sym (ap (λ b. if b then LocalAddress free offset ∷ [] else Const free 0 ∷ []) e))
-            (address_goes f free (LocalAddress free offset) code ((here m floors).base + offset) (ap (λ v. at l (put f free v) code) locals));
+            (address_goes f free (LocalAddress free offset) code ((here m floors).base + offset) (ap (λ v. at l (put f free v) code) locals) refl);
         kept = λ r below. put_lower f free ((here m floors).base + offset) r below;
         is = holds (put f free ((here m floors).base + offset) free.0) (inr (put_same f free ((here m floors).base + offset)));
         low = let is = put_same f free ((here m floors).base + offset) in let less = low in omega arith;
@@ -139,7 +139,7 @@ module _ (g : Setting) (fit : IsFitting g) (m : MirState) (l : State) (floors : 
       by false e = record {
         h = put f free 0;
         goes = subst (λ c. Goes g (fewest_steps c) 1 (at l f (c ++ code)) (at l (put f free 0) code)) (sym (ap (λ b. if b then LocalAddress free offset ∷ [] else Const free 0 ∷ []) e))
-            (address_goes f free (Const free 0) code 0 refl);
+            (address_goes f free (Const free 0) code 0 refl refl);
         kept = λ r below. put_lower f free 0 r below;
         is = holds (put f free 0 free.0) (inl (let more : frame_here.locals ≤ offset = grind (arith, nat_tests) in omega arith));
         low = let is = put_same f free 0 in omega arith;
@@ -155,7 +155,7 @@ module _ (g : Setting) (fit : IsFitting g) (m : MirState) (l : State) (floors : 
       let is = put_same f free a in
       record {
         h = put f free a;
-        goes = address_goes f free (Address free (GlobalSymbol (record { 0 = v.0 }))) code a refl;
+        goes = address_goes f free (Address free (GlobalSymbol (record { 0 = v.0 }))) code a refl refl;
         kept = λ r below. put_lower f free a r below;
         is = record { live = known; distance = 0; leads = (ap (arrangement_of g.core) type, refl); at = inr (ap (λ v. v + 0) is) };
         low = omega arith;

@@ -1,6 +1,7 @@
 -- The code of a path comes to the place where it leads, or to error 201.
 use Rattle.std.proofs.Common.{◌≡◌, ◌≢◌, ◌≤◌, ◌<◌, ◌⊎◌, inl, inr, ℕ, ◌+◌, ◌*◌, List, [], ◌∷◌, ◌++◌, Some, None, refl, sym, ap, ◌∙◌, subst, arith, append_assoc, append-nil}
-use Rattle.std.specs.Prelude.{◌^◌, ◌%◌, map, pos, Bool, true, false, ◌&&◌, nat_le, nat_lt, ◌-ℤ◌, nat_abs, if◌then◌else◌}
+use Rattle.std.specs.Prelude.{◌^◌, ◌%◌, map, pos, Bool, true, false, nat_le, ◌-ℤ◌, nat_abs, if◌then◌else◌}
+use Rattle.std.proofs.lemmas.Bool.{and_parts, ltb-true}
 use Rattle.std.specs.List.{list_all}
 use Rattle.std.proofs.lemmas.Bool.Decides.{nat_tests}
 use Rattle.op_compute.proofs.RangeLemmas.{sum_then}
@@ -53,20 +54,13 @@ HaveIndices x [] = Unit {0}
 HaveIndices x (Field of n ∷ ss) = HaveIndices x ss
 HaveIndices x (Element of low high t ∷ ss) = (t.0 < x.temporaries) × HaveIndices x ss
 
-both_true : (a b : Bool) → (a && b) ≡ true → (a ≡ true) × (b ≡ true)
-both_true true b e = (refl, e)
-both_true false b e = absurd cc
-
-below_of : (a b : ℕ) → nat_lt a b ≡ true → a < b
-below_of a b e = grind (arith, nat_tests)
-
 pub indices_of : (mir : Mir) (x : Routine) (ss : List Step) → list_all (step_fits mir x) ss ≡ true → HaveIndices x ss
 unfolding step_fits
 indices_of mir x [] is = tt
-indices_of mir x (Field of n ∷ ss) is = indices_of mir x ss (both_true _ _ is).1
+indices_of mir x (Field of n ∷ ss) is = indices_of mir x ss (and_parts _ _ is).1
 indices_of mir x (Element of low high t ∷ ss) is =
-    let (first, others) = both_true _ (list_all (step_fits mir x) ss) is in
-    (below_of t.0 x.temporaries (both_true _ (has x t) first).1, indices_of mir x ss others)
+    let (first, others) = and_parts _ (list_all (step_fits mir x) ss) is in
+    (ltb-true t.0 x.temporaries (and_parts _ (has x t) first).1, indices_of mir x ss others)
 
 pub small_first : (core : _) (of : TypeId) (steps : List MeantStep) → AreSmall core of steps → IsSmall core of
 small_first core of [] small = small

@@ -23,7 +23,7 @@ use Rattle.op_meaning.specs.Values.{Value, Holder, global, local, temporary, obj
 use Rattle.op_meaning.specs.World.{World}
 use Rattle.op_mir.specs.Machine.{MirCaller, MirState}
 use Rattle.op_mir.specs.declared.path.Root.TheVariants.{Local}
-use Rattle.op_agreement.proofs.Charting.{live_apart, live_stands, same_is}
+use Rattle.op_agreement.proofs.Charting.{live_apart, live_stands, local_stands, same_is}
 use Rattle.op_agreement.proofs.Counting.{count_below}
 use Rattle.op_agreement.proofs.Entered.{plain_at}
 use Rattle.op_agreement.proofs.Entering.{Enters, above_at, is_stored, registers_begun, value_below, value_held, value_past, values_at, world_after}
@@ -172,18 +172,19 @@ module _ (g : Setting) (fit : IsFitting g) (m : MirState) (l : State) (floors ne
               let whole = type_is_arranged g.core fit.program.extents (type_held g.core new x) stands.small in
               let size = whole.size in
               let below = stands.below in
-              let aligned = stands.words in
-              let own = (live_stands g fit new deep lk.limit floors_stand top (local deep k) live_here).words in
+              let words = stands.words in
+              let own = local_stands g fit new deep lk.limit floors_stand top deep k live_here in
               let apart = live_apart g fit new deep lk.limit floors_stand top x (local deep k) other live live_here in
               subst (λ v. Lies (arrangement_of g.core (type_held g.core new x)) v memory (address_of g new x)) (sym (value_other k x other))
-              (kept (arrangement_of g.core (type_held g.core new x)) (values k x) lk.memory memory (address_of g new x) whole.arranged (λ y from to. changed y (omega arith) (far y from to size aligned own apart)) (was.lie x live))
+              (kept (arrangement_of g.core (type_held g.core new x)) (values k x) lk.memory memory (address_of g new x) whole.arranged (λ y from to. changed y (omega arith) (far y from to size own.0 own.1 words apart)) (was.lie x live))
             where
               at_is : address_of g new (local deep k) ≡ floor_here.base + offset
               at_is = ap (λ n. floor_here.base + n) offset_is
 
-              far : (y : ℕ) → address_of g new x ≤ y → y < address_of g new x + bytes_in (arrangement_of g.core (type_held g.core new x)) → bytes_in (arrangement_of g.core (type_held g.core new x)) ≡ size_in g.core (type_held g.core new x) → address_of g new x % 4 ≡ 0 → address_of g new (local deep k) % 4 ≡ 0 → Apart (address_of g new x) (size_in g.core (type_held g.core new x)) (address_of g new (local deep k)) (size_in g.core (type_of_local g.core floor_here.number k)) → (y < floor_here.base + offset) ⊎ (floor_here.base + offset + rounded (size_in g.core p.of) ≤ y)
-              far y from to size aligned own (inl before) = let is = at_is in inl (omega arith)
-              far y from to size aligned own (inr behind) =
+              far : (y : ℕ) → address_of g new x ≤ y → y < address_of g new x + bytes_in (arrangement_of g.core (type_held g.core new x)) → bytes_in (arrangement_of g.core (type_held g.core new x)) ≡ size_in g.core (type_held g.core new x) → address_of g new (local deep k) % 4 ≡ 0 → g.bottom ≤ address_of g new (local deep k) → (address_of g new x + size_in g.core (type_held g.core new x) ≤ g.bottom) ⊎ (address_of g new x % 4 ≡ 0) → Apart (address_of g new x) (size_in g.core (type_held g.core new x)) (address_of g new (local deep k)) (size_in g.core (type_of_local g.core floor_here.number k)) → (y < floor_here.base + offset) ⊎ (floor_here.base + offset + rounded (size_in g.core p.of) ≤ y)
+              far y from to size own above (inl below) apart = let is = at_is in inl (omega arith)
+              far y from to size own above (inr aligned) (inl before) = let is = at_is in inl (omega arith)
+              far y from to size own above (inr aligned) (inr behind) =
                   let is = at_is in
                   let same : size_in g.core (type_of_local g.core floor_here.number k) ≡ size_in g.core p.of = ap (size_in g.core) type_here in
                   let within = rounded_within (floor_here.base + offset) (address_of g new x) (size_in g.core p.of) (omega arith) aligned (omega arith) in

@@ -19,7 +19,7 @@ abbrev charge_found : Option Routine → ℕ
 charge_found None = 0
 charge_found (Some x) = x.charge
 
-module _ (g : Setting) (fit : IsFitting g) (m : MirState) (l : State) (floors : ℕ → Floor) (i : Instruction) (is : List Instruction) (id : ℕ) (next : Next g m l floors i is id) where
+module _ (g : Setting) (fit : IsFitting g) (m : MirState) (l : State) (floors : ℕ → Floor) (i : Instruction) (is : List Instruction) (next : Next g m l floors i is) where
   -- the charge of the activation under way
   abbrev pub charged : ℕ
   charged = charge_here (managed g).charge (length m.callers) m.routine

@@ -7,7 +7,22 @@ use Rattle.std.proofs.lemmas.Bool.Decides.{nat_tests}
 use Rattle.std.proofs.lemmas.Option.{slice_get-map}
 use Rattle.std.proofs.lemmas.List.Sums.{sum_by-cons}
 use Rattle.std.specs.List.{sum_by}
-use Rattle.op_constants.proofs.TypesArranged.{some_at}
+use Rattle.op_agreement.proofs.Charting.{same_is}
+use Rattle.op_agreement.proofs.Entered.{memory_below, stays_begun}
+use Rattle.op_agreement.proofs.Entering.{Enters, below_begun, fits_here, is_stored, parameter_is, registers_begun, rows_are, value_held, value_unset, values_at, world_after}
+use Rattle.op_agreement.proofs.Going.{goes_none, goes_then, goes_within}
+use Rattle.op_agreement.proofs.Parameters.{IsParameter, as_many}
+use Rattle.op_agreement.proofs.Placing.{Received, value_other}
+use Rattle.op_agreement.proofs.Receiving.{Receives, stored_received, received_by, receive_most}
+use Rattle.op_agreement.proofs.Standing.{stands_on}
+use Rattle.op_agreement.specs.Chart.{Floor}
+use Rattle.op_agreement.specs.Fitting.{IsFitting}
+use Rattle.op_agreement.specs.Settings.{HaveHomes, Setting, managed}
+use Rattle.op_agreement.specs.Stands.{Position, Stands, Stays}
+use Rattle.op_agreement.specs.Typed.{IsVariable, parameter_rows}
+use Rattle.op_base.proofs.Lists.{slice_get-take_is}
+use Rattle.op_constants.specs.Literals.{literals_of}
+use Rattle.op_core.proofs.Rows.{row_of, there_is}
 use Rattle.op_core.specs.Rows.{rows}
 use Rattle.op_core.specs.declared.ids.TypeId.{TypeId}
 use Rattle.op_core.specs.declared.program.Core.{Core}
@@ -31,20 +46,6 @@ use Rattle.op_meaning.specs.World.{World, Running as GoingOn}
 use Rattle.op_mir.specs.Machine.{MirCaller, MirState, block_at, block_or}
 use Rattle.op_mir.specs.View.{view_block, view_routine}
 use Rattle.op_rt_text.specs.Names.{register}
-use Rattle.op_agreement.proofs.Charting.{same_is}
-use Rattle.op_agreement.proofs.Entered.{memory_below, stays_begun}
-use Rattle.op_agreement.proofs.Entering.{Enters, below_begun, fits_here, is_stored, parameter_is, registers_begun, rows_are, value_held, value_unset, values_at, world_after}
-use Rattle.op_agreement.proofs.Going.{goes_none, goes_then, goes_within}
-use Rattle.op_agreement.proofs.Keeping.{get_take, row_found}
-use Rattle.op_agreement.proofs.Parameters.{IsParameter, as_many}
-use Rattle.op_agreement.proofs.Placing.{Received, value_other}
-use Rattle.op_agreement.proofs.Receiving.{Receives, stored_received, received_by, receive_most}
-use Rattle.op_agreement.proofs.Standing.{stands_on}
-use Rattle.op_agreement.specs.Chart.{Floor}
-use Rattle.op_agreement.specs.Fitting.{IsFitting}
-use Rattle.op_agreement.specs.Settings.{HaveHomes, Setting, managed}
-use Rattle.op_agreement.specs.Stands.{Position, Stands, Stays}
-use Rattle.op_agreement.specs.Typed.{IsVariable, parameter_rows}
 
 -- ---- what stands in front of the first block of a routine
 
@@ -132,8 +133,8 @@ module _ (g : Setting) (fit : IsFitting g) (m : MirState) (l : State) (floors ne
       by (Held q) home = more_time (kept_received k (received g.core floor_here.frame k p) rest lk (ap (received_by g.core floor_here.frame k p) home) (ap is_stored home) was)
       by (Shared id) home = more_time (kept_received k (received g.core floor_here.frame k p) rest lk (ap (received_by g.core floor_here.frame k p) home) (ap is_stored home) was)
       by (StoredHome offset) home =
-          let (few, there) = get_take (parameters_of g.core floor_here.number) (rows g.core.variables (variables_of g.core floor_here.number)) k p found in
-          let (low, row) = row_found g.core.variables (variables_of g.core floor_here.number) k p there in
+          let (few, there) = slice_get-take_is (parameters_of g.core floor_here.number) (rows g.core.variables (variables_of g.core floor_here.number)) k p found in
+          let (low, row) = row_of g.core.variables (variables_of g.core floor_here.number) k p there in
           handed few low row (parameter_is g fit m l floors new r given c lcs room first result words e k p found)
         where
           handed : k < parameters_of g.core floor_here.number → k < (variables_of g.core floor_here.number).count → slice_get g.core.variables ((variables_of g.core floor_here.number).first + k) ≡ Some p → IsParameter g floors (length m.callers) m.world world deep k p (registers_begun g fit m l floors new r given c lcs room first result words e (parameter k)) → Receives g (HasReceived (k + 1) rest) (receive_most g.core p) lk
@@ -198,9 +199,9 @@ module _ (g : Setting) (fit : IsFitting g) (m : MirState) (l : State) (floors ne
   pub begun_stands : m.world.ending ≡ GoingOn → Receives g (Stands g (above_with world.memory)) (sum_by (receive_most g.core) rows_here) (below_begun g fit m l floors new r given c lcs room first result words e)
   begun_stands ending =
       let fits = fits_here g fit m l floors new r given c lcs room first result words e in
-      let (block, found) = some_at floor_here.routine.blocks 0 fits.some in
+      let (block, found) = there_is floor_here.routine.blocks 0 fits.some in
       let stands = e.floor.expanded.blocks 0 block found in
-      let rest = code_of g.core g.mir floor_here.frame floor_here.number stands.id block.code in
+      let rest = code_of g.core g.mir floor_here.frame (literals_of g.core g.mir) block.code in
       let exists = e.exists in
       let many = fit.program.number in
       let number = e.number in
@@ -217,7 +218,6 @@ module _ (g : Setting) (fit : IsFitting g) (m : MirState) (l : State) (floors ne
       let few : length given ≡ length rows_here = (as_many g floors (length m.callers) m.world given (parameter_rows g.core r) words e.are).0 ∙ ap length (rows_are g fit m l floors new r given c lcs room first result words e) in
       let position : Position g floor_here (block_at ((managed g).blocks floor_here.number) 0) rest = record {
         is = block.code;
-        id = stands.id;
         above =
             ap (λ x. block_at (view_routine g.core floor_here.number x) 0) e.floor.found
             ∙ ap block_or (slice_get-map (view_block g.core floor_here.number) floor_here.routine.blocks 0 ∙ ap (option_map (view_block g.core floor_here.number)) found);

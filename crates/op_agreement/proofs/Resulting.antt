@@ -74,9 +74,9 @@ word_goes frame free Nowhere = refl
 word_goes frame free (Temporary t) = refl
 word_goes frame free (ToPlace of to) = refl
 
-module _ (g : Setting) (fit : IsFitting g) (m : MirState) (l : State) (floors : ℕ → Floor) (is : List Instruction) (id : ℕ) (next : Next g m l floors Return is id) (c : MirCaller) (cs : List MirCaller) (lc : Caller) (lcs : List Caller) (above : m.callers ≡ c ∷ cs) (lows : l.callers ≡ lc ∷ lcs) (of : TypeId) (some : result_of (slice_get g.core.routines (here m floors).number) ≡ Some of) (has : HasResult g.core (here m floors).number of) where
+module _ (g : Setting) (fit : IsFitting g) (m : MirState) (l : State) (floors : ℕ → Floor) (is : List Instruction) (next : Next g m l floors Return is) (c : MirCaller) (cs : List MirCaller) (lc : Caller) (lcs : List Caller) (above : m.callers ≡ c ∷ cs) (lows : l.callers ≡ lc ∷ lcs) (of : TypeId) (some : result_of (slice_get g.core.routines (here m floors).number) ≡ Some of) (has : HasResult g.core (here m floors).number of) where
   abbrev pub rest : List LowInstruction
-  rest = rest_below g m l floors Return is id next
+  rest = rest_below g m l floors Return is next
 
   abbrev pub frame : Frame
   frame = (here m floors).frame
@@ -119,13 +119,13 @@ module _ (g : Setting) (fit : IsFitting g) (m : MirState) (l : State) (floors : 
       let charge = caller.charge in
       let charged : m.charged - (managed g).charge m.routine ≡ caller.under = omega arith in
       let s = next.stays in
-      let behind : MirState = record m { rest = rest_above g m l floors Return is id next } in
+      let behind : MirState = record m { rest = rest_above g m l floors Return is next } in
       let value_is : result_in (tables (managed g)) m.routine m.world ≡ value = ap₂ (λ d r. m.world.memory (local d (result_of_routine g.core r))) s.depth (sym s.activation.number) in
-      step_here g fit m l floors Return is id next ∙ ap (λ xs. mir_returned (managed g) xs behind) above
+      step_here g fit m l floors Return is next ∙ ap (λ xs. mir_returned (managed g) xs behind) above
       ∙ ap₂ (λ (x : Value) (n : ℕ). let y : MirState = record { world = received (tables (managed g)) c.receiver x (record m.world { temps = c.temps; made = c.made; depth = m.world.depth - 1 }); routine = c.routine; rest = c.rest; frames = c.frames; callers = cs; pending = m.pending; charged = n } in y) value_is charged
 
   -- the code of the return
-  pub result_code_is : code_for g.core g.mir frame id Return ≡ result_code g.core frame of variable
+  pub result_code_is : code_for g.core g.mir frame Return ≡ result_code g.core frame of variable
   unfolding code_for
   result_code_is =
       let a = next.stays.activation in
@@ -175,7 +175,7 @@ module _ (g : Setting) (fit : IsFitting g) (m : MirState) (l : State) (floors : 
       goes : Goes g 0 2 l (at l f (LowReturn r ∷ rest))
       word : IsWordOf (f r.0) (number_in value)
 
-    number_code_is : code_for g.core g.mir frame id Return ≡ number_code g.core frame kind variable
+    number_code_is : code_for g.core g.mir frame Return ≡ number_code g.core frame kind variable
     number_code_is = result_code_is ∙ rw shape refl
 
     -- the code by the home of the variable
@@ -193,11 +193,11 @@ module _ (g : Setting) (fit : IsFitting g) (m : MirState) (l : State) (floors : 
     -- from its register, or from the locals
     number_held : (r : VirtualRegister) → home_at frame.homes variable ≡ Held r → NumberReady
     number_held r home =
-        let code : code_for g.core g.mir frame id Return ≡ LowReturn r ∷ [] = number_code_is ∙ number_by_is (Held r) home in
+        let code : code_for g.core g.mir frame Return ≡ LowReturn r ∷ [] = number_code_is ∙ number_by_is (Held r) home in
         record {
           f = l.top.registers;
           r = r;
-          goes = goes_from g 0 l (at l l.top.registers (LowReturn r ∷ rest)) (at l l.top.registers (LowReturn r ∷ rest)) (begins_here g fit m l floors Return is id next (LowReturn r ∷ []) code) (goes_within g 0 2 (at l l.top.registers (LowReturn r ∷ rest)) (at l l.top.registers (LowReturn r ∷ rest)) (goes_none g (at l l.top.registers (LowReturn r ∷ rest))) (omega arith));
+          goes = goes_from g 0 l (at l l.top.registers (LowReturn r ∷ rest)) (at l l.top.registers (LowReturn r ∷ rest)) (begins_here g fit m l floors Return is next (LowReturn r ∷ []) code) (goes_within g 0 2 (at l l.top.registers (LowReturn r ∷ rest)) (at l l.top.registers (LowReturn r ∷ rest)) (goes_none g (at l l.top.registers (LowReturn r ∷ rest))) (omega arith));
           word = next.stays.activation.kept.variables v r.0 has.0 home;
         }
 
@@ -211,7 +211,7 @@ module _ (g : Setting) (fit : IsFitting g) (m : MirState) (l : State) (floors : 
         let size = size_of_number g fit m l floors s of kind shape small in
         let bytes = some_size kind in
         let t : nat_lt offset frame.locals ≡ true = grind (arith, nat_tests) in
-        let code : code_for g.core g.mir frame id Return ≡ LocalAddress left offset ∷ Load (load_op kind) left left (pos 0) ∷ LowReturn left ∷ [] = number_code_is ∙ number_by_is (Stored offset) home ∙ ap (λ b. (if b then LocalAddress left offset ∷ [] else Const left 0 ∷ []) ++ [] ++ [] ++ Load (load_op kind) left left (pos 0) ∷ [] ++ LowReturn left ∷ []) t in
+        let code : code_for g.core g.mir frame Return ≡ LocalAddress left offset ∷ Load (load_op kind) left left (pos 0) ∷ LowReturn left ∷ [] = number_code_is ∙ number_by_is (Stored offset) home ∙ ap (λ b. (if b then LocalAddress left offset ∷ [] else Const left 0 ∷ []) ++ [] ++ [] ++ Load (load_op kind) left left (pos 0) ∷ [] ++ LowReturn left ∷ []) t in
         let h = put l.top.registers left a in
         let same : h 0 + 0 ≡ a = omega (arith, put_same l.top.registers left a) in
         let base = s.activation.base in
@@ -223,11 +223,11 @@ module _ (g : Setting) (fit : IsFitting g) (m : MirState) (l : State) (floors : 
         let first : Goes g 1 1 (at l l.top.registers (LocalAddress left offset ∷ Load (load_op kind) left left (pos 0) ∷ LowReturn left ∷ rest)) (at l h (Load (load_op kind) left left (pos 0) ∷ LowReturn left ∷ rest)) =
         goes_to g 1 (at l l.top.registers (LocalAddress left offset ∷ Load (load_op kind) left left (pos 0) ∷ LowReturn left ∷ rest)) (act g.low g.placement (LocalAddress left offset) (at l l.top.registers (Load (load_op kind) left left (pos 0) ∷ LowReturn left ∷ rest))) (at l h (Load (load_op kind) left left (pos 0) ∷ LowReturn left ∷ rest))
         (ap (λ x. at l (put l.top.registers left x) (Load (load_op kind) left left (pos 0) ∷ LowReturn left ∷ rest)) (local_address offset home))
-        (goes_one g l l.top.registers (LocalAddress left offset) (Load (load_op kind) left left (pos 0) ∷ LowReturn left ∷ rest)) in
+        (goes_one g l l.top.registers (LocalAddress left offset) (Load (load_op kind) left left (pos 0) ∷ LowReturn left ∷ rest) refl) in
         record {
           f = f;
           r = left;
-          goes = goes_from g 0 l (at l l.top.registers (LocalAddress left offset ∷ Load (load_op kind) left left (pos 0) ∷ LowReturn left ∷ rest)) (at l f (LowReturn left ∷ rest)) (begins_here g fit m l floors Return is id next (LocalAddress left offset ∷ Load (load_op kind) left left (pos 0) ∷ LowReturn left ∷ []) code)
+          goes = goes_from g 0 l (at l l.top.registers (LocalAddress left offset ∷ Load (load_op kind) left left (pos 0) ∷ LowReturn left ∷ rest)) (at l f (LowReturn left ∷ rest)) (begins_here g fit m l floors Return is next (LocalAddress left offset ∷ Load (load_op kind) left left (pos 0) ∷ LowReturn left ∷ []) code)
               (goes_then g 1 1 0 (at l l.top.registers (LocalAddress left offset ∷ Load (load_op kind) left left (pos 0) ∷ LowReturn left ∷ rest)) (at l h (Load (load_op kind) left left (pos 0) ∷ LowReturn left ∷ rest)) (at l f (LowReturn left ∷ rest)) (omega arith) first loads);
           word = word;
         }
@@ -256,7 +256,7 @@ module _ (g : Setting) (fit : IsFitting g) (m : MirState) (l : State) (floors : 
         let k = gone_below g fit m l floors next.stays c cs lc lcs above lows caller (ready.f ready.r.0) in
         record {
           to = k;
-          goes = goes_within g 1 (most_for_one * mir_cost (managed g) m) l k (goes_then g 0 1 1 l (at l ready.f (LowReturn ready.r ∷ rest)) k (omega arith) ready.goes (low_returns g fit m l floors next.stays c cs lc lcs above lows caller ready.f l.memory ready.r rest)) (afford_light g fit m l floors Return is id next 3 (omega arith));
+          goes = goes_within g 1 (most_for_one * mir_cost (managed g) m) l k (goes_then g 0 1 1 l (at l ready.f (LowReturn ready.r ∷ rest)) k (omega arith) ready.goes (low_returns g fit m l floors next.stays c cs lc lcs above lows caller ready.f l.memory ready.r rest)) (afford_light g fit m l floors Return is next 3 (omega arith));
           stands = subst (λ x. Stands g x k) (sym return_step) (by (ready.f ready.r.0) ready.word c.receiver refl caller_gets);
         }
       where

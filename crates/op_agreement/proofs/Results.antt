@@ -1,6 +1,7 @@
 -- Where the result of a call goes: the code of its receiver comes to a register with the address, if it has one.
 use Rattle.std.proofs.Common.{◌≡◌, ℕ, ◌+◌, List, [], ◌∷◌, ◌++◌, length, Option, Some, None, refl, sym, ap, ap₂, subst, arith, ◌*◌, ◌≤◌}
 use Rattle.std.specs.Prelude.{map, true}
+use Rattle.std.proofs.lemmas.Bool.{and_parts}
 use Rattle.op_compute.specs.Bank.{scratch_of}
 use Rattle.op_compute.specs.Straight.{at, fewest_steps}
 use Rattle.op_constants.specs.Arranged.{IsSmall}
@@ -27,7 +28,7 @@ use Rattle.op_mir.specs.declared.path.Path.{Path}
 use Rattle.op_mir.specs.declared.path.Root.TheVariants.{Global, Local, Through, Temporary}
 use Rattle.op_mir.specs.declared.path.Root.{Root}
 use Rattle.op_mir.specs.declared.path.Step.{Step}
-use Rattle.op_agreement.proofs.Branching.{both_true, has_of}
+use Rattle.op_agreement.proofs.Branching.{has_of}
 use Rattle.op_agreement.proofs.Elements.{KeptBelow}
 use Rattle.op_agreement.proofs.Spots.{SpotFits, fits_register, fits_scratch}
 use Rattle.op_agreement.proofs.Going.{Goes, goes_fewer, goes_none, goes_within}
@@ -120,4 +121,4 @@ module _ (g : Setting) (fit : IsFitting g) (m : MirState) (l : State) (floors : 
   result_given (ToTemporary t) result code fits typed homes = record { h = l.top.registers; goes = goes_within g 0 3 (at l l.top.registers code) (at l l.top.registers code) (goes_none g (at l l.top.registers code)) (omega arith); kept = λ r low. refl; fits = left_fits; receives = λ c. has_of (here m floors).routine t fits }
   result_given (ToPlace of to) result code fits typed homes =
       let (n, same) = typed_place g.core of (view_path to) result typed in
-      address_given of to n code same (both_true (has_type g.mir of) (path_fits g.mir (here m floors).routine to) fits).1 homes
+      address_given of to n code same (and_parts (has_type g.mir of) (path_fits g.mir (here m floors).routine to) fits).1 homes

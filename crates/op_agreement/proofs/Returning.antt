@@ -111,26 +111,26 @@ to_scratch frame Nowhere free e = refl
 to_scratch frame (Temporary t) free e = absurd cc
 to_scratch frame (Place of to) free e = absurd cc
 
-module _ (g : Setting) (fit : IsFitting g) (m : MirState) (l : State) (floors : ℕ → Floor) (is : List Instruction) (id : ℕ) (next : Next g m l floors Return is id) (due : AreStillDue g m) (none : result_of (slice_get g.core.routines (here m floors).number) ≡ None) where
+module _ (g : Setting) (fit : IsFitting g) (m : MirState) (l : State) (floors : ℕ → Floor) (is : List Instruction) (next : Next g m l floors Return is) (due : AreStillDue g m) (none : result_of (slice_get g.core.routines (here m floors).number) ≡ None) where
   abbrev rest : List LowInstruction
-  rest = rest_below g m l floors Return is id next
+  rest = rest_below g m l floors Return is next
 
   abbrev behind_return : MirState
-  behind_return = record m { rest = rest_above g m l floors Return is id next }
+  behind_return = record m { rest = rest_above g m l floors Return is next }
 
   procedure_by : (cs : List MirCaller) (ls : List Caller) → m.callers ≡ cs → l.callers ≡ ls → CallersStand g floors m.world.memory m.world.bound cs ls m.routine (l.top.registers result_address.0) l.limit l.room m.charged → Comes g m l
   unfolding code_for execute act
-  procedure_by [] ls above lows s = main_comes g fit m l floors is id next above due
+  procedure_by [] ls above lows s = main_comes g fit m l floors is next above due
   procedure_by (c ∷ cs) [] above lows s = absurd s
   procedure_by (c ∷ cs) (lc ∷ lcs) above lows (inr (below, under, spare, status, a, ended, others, are, charge, at_, more, waits, activation, callers)) =
-      closing_again g fit m l floors is id next c cs lc ended others above (lows ∙ ap (λ xs. lc ∷ xs) are) below under spare status a charge at_ more waits activation callers
+      closing_again g fit m l floors is next c cs lc ended others above (lows ∙ ap (λ xs. lc ∷ xs) are) below under spare status a charge at_ more waits activation callers
   procedure_by (c ∷ cs) (lc ∷ lcs) above lows (inl (below, under, spare, declared, low, charge, at_, more, frames, receiver, to, typed, result, nameless, made, position, activation, callers)) =
       let s = next.stays in
       let a = s.activation in
       let number : (here m floors).number ≡ m.routine = a.number in
       let no_result : result_of (slice_get g.core.routines m.routine) ≡ None = subst (λ r. result_of (slice_get g.core.routines r) ≡ None) number none in
       let returns : (here m floors).frame.returning ≡ Nothing = a.floor.fits.returning ∙ ap (returning_of g.core) number ∙ procedure_returning g.core m.routine low no_result in
-      let code : code_for g.core g.mir (here m floors).frame id Return ≡ LowReturn left ∷ [] = ap (return_code g.core (here m floors).frame) returns in
+      let code : code_for g.core g.mir (here m floors).frame Return ≡ LowReturn left ∷ [] = ap (return_code g.core (here m floors).frame) returns in
       let goes_nowhere = nowhere_only g.core c.receiver (result_of (slice_get g.core.routines m.routine)) no_result typed in
       let to_is : lc.to.0 ≡ (floors (length cs)).frame.bank.scratch + 0 = ap (λ (r : VirtualRegister). r.0) (to ∙ to_scratch (floors (length cs)).frame declared (scratch_of (floors (length cs)).frame.bank 0) (sym receiver ∙ goes_nowhere)) in
       let scratch = activation.floor.fits.scratch in
@@ -148,16 +148,16 @@ module _ (g : Setting) (fit : IsFitting g) (m : MirState) (l : State) (floors : 
       let w = record m.world { temps = c.temps; made = c.made; depth = m.world.depth - 1 } in
       let value = result_in (tables (managed g)) m.routine m.world in
       let step : mir_step (managed g) m ≡ back =
-      step_here g fit m l floors Return is id next ∙ ap (λ xs. mir_returned (managed g) xs behind_return) above
+      step_here g fit m l floors Return is next ∙ ap (λ xs. mir_returned (managed g) xs behind_return) above
       ∙ ap₂ (λ (r : Receiver) (n : ℕ). let x : MirState = record { world = received (tables (managed g)) r value w; routine = c.routine; rest = c.rest; frames = c.frames; callers = cs; pending = m.pending; charged = n } in x) goes_nowhere charged in
       let does : act g.low g.placement (LowReturn left) (at l l.top.registers rest) ≡ k =
       ap (λ xs. return_to g.low g.placement v xs (at l l.top.registers rest)) lows
       ∙ ap₂ (λ (x y : ℕ). let z : State = record l { top = with_value lc.to v lc.activation; callers = lcs; limit = x; room = y; ending = Running } in z) limit room in
       record {
         to = k;
-        goes = goes_from g 1 l (at l l.top.registers (LowReturn left ∷ rest)) k (begins_here g fit m l floors Return is id next (LowReturn left ∷ []) code)
+        goes = goes_from g 1 l (at l l.top.registers (LowReturn left ∷ rest)) k (begins_here g fit m l floors Return is next (LowReturn left ∷ []) code)
             (goes_within g 1 (most_for_one * mir_cost (managed g) m) (at l l.top.registers (LowReturn left ∷ rest)) k
-            (goes_to g 1 (at l l.top.registers (LowReturn left ∷ rest)) (act g.low g.placement (LowReturn left) (at l l.top.registers rest)) k does (goes_one g l l.top.registers (LowReturn left) rest)) (running_costs g m next.ending));
+            (goes_to g 1 (at l l.top.registers (LowReturn left ∷ rest)) (act g.low g.placement (LowReturn left) (at l l.top.registers rest)) k does (goes_one g l l.top.registers (LowReturn left) rest refl)) (running_costs g m next.ending));
         stands = subst (λ x. Stands g x k) (sym step)
             (back_stands g fit m l floors s c cs lc lcs above below spare under frames nameless made position activation callers (omega arith) c.temps lc.to v
             (λ r less. kept r (omega arith))

@@ -1,11 +1,12 @@
 -- Where the variables of a routine and its temporaries of record and array types begin: one behind the other.
-use Rattle.std.proofs.Common.{◌≡◌, ◌≤◌, ◌⊎◌, ℕ, zero, suc, ◌+◌, ◌*◌, ◌/◌, ◌%◌, min, Bool, true, false, ◌||◌, List, [], ◌∷◌, take, nat_eq, slice_get, Some, refl, sym, ap, ap₂, ◌∙◌, subst, arith, inl, inr, true≢false, if◌then◌else◌}
-use Rattle.std.proofs.lemmas.Bool.{and_from, and_parts, eq-eqb, eqb-true}
+use Rattle.std.proofs.Common.{◌≡◌, ◌≤◌, ◌⊎◌, ℕ, zero, suc, ◌+◌, ◌%◌, Bool, true, false, List, [], ◌∷◌, take, slice_get, Some, refl, sym, ap, ap₂, ◌∙◌, arith, inl, inr, true≢false, if◌then◌else◌}
 use Rattle.std.specs.List.{list_any}
+use Rattle.op_base.proofs.Tests.{or_second}
 use Rattle.op_constants.specs.Offsets.{size_in}
 use Rattle.op_core.specs.declared.ids.TypeId.{TypeId}
 use Rattle.op_core.specs.declared.program.Core.{Core}
 use Rattle.op_core.specs.declared.routine.Variable.{Variable}
+use Rattle.op_expand.proofs.RoomLemmas.{one_with_both, room_whole, rounded_whole, sum_whole, temporary_is}
 use Rattle.op_expand.specs.Homes.{end_of, home_at, home_by, homes_from, is_one_root, keeping_of, offset_of, room_behind, room_by, rounded, size_of_root}
 use Rattle.op_expand.specs.declared.homes.Keeping.{Keeping}
 use Rattle.op_expand.specs.declared.homes.Keeping.TheVariants.{AsGiven, InRegister, InMemory}
@@ -18,17 +19,6 @@ use Rattle.op_mir.specs.declared.path.Root.TheVariants.{Global, Local, Through, 
 -- what is rounded up to whole words is no less
 pub rounded_more : (n : ℕ) → n ≤ rounded n
 rounded_more n = omega arith
-
--- and it takes whole words
-rounded_whole : (n : ℕ) → rounded n % 4 ≡ 0
-rounded_whole n = whole (n / 4 + min 1 (n % 4))
-  where
-    whole : (k : ℕ) → k * 4 % 4 ≡ 0
-    whole k = omega arith
-
--- whole words together are whole words
-sum_whole : (a b : ℕ) → a % 4 ≡ 0 → b % 4 ≡ 0 → (a + b) % 4 ≡ 0
-sum_whole a b p q = omega arith
 
 -- ---- the room behind variables
 
@@ -55,12 +45,6 @@ later_by : (keeping : Keeping) (size : ℕ) (room : Room) → IsLater room (room
 later_by AsGiven size room = later_same room
 later_by InRegister size room = record { register = omega arith; offset = omega arith }
 later_by InMemory size room = record { register = omega arith; offset = omega arith }
-
--- and begins at a whole word again
-room_whole : (keeping : Keeping) (size : ℕ) (room : Room) → room.offset % 4 ≡ 0 → (room_by keeping size room).offset % 4 ≡ 0
-room_whole AsGiven size room p = p
-room_whole InRegister size room p = p
-room_whole InMemory size room p = sum_whole room.offset (rounded size) p (rounded_whole size)
 
 module _ (core : Core) (parameters : ℕ) (roots : List Root) where
   -- the room behind variables is later than the room before them
@@ -108,29 +92,6 @@ module _ (core : Core) (parameters : ℕ) (roots : List Root) where
 
 -- ---- temporaries
 
--- a root that is one with a temporary is that temporary
-pub temporary_is : (of : TypeId) (n : ℕ) (s : Root) → is_one_root (Temporary of n) s ≡ true → s ≡ Temporary of n
-temporary_is of n (Local w) e = absurd (true≢false (sym e))
-temporary_is of n (Global w) e = absurd (true≢false (sym e))
-temporary_is of n (Through w) e = absurd (true≢false (sym e))
-temporary_is of n (Temporary type m) e =
-    let (types, numbers) = and_parts (nat_eq of.0 type.0) (nat_eq n m) e in
-    sym (ap₂ (λ t k. Temporary (record { 0 = t }) k) (eqb-true of.0 type.0 types) (eqb-true n m numbers))
-
--- a temporary is one with itself
-pub one_with_itself : (of : TypeId) (n : ℕ) → is_one_root (Temporary of n) (Temporary of n) ≡ true
-one_with_itself of n = and_from (nat_eq of.0 of.0) (nat_eq n n) (eq-eqb of.0 of.0 refl) (eq-eqb n n refl)
-
--- of two temporaries that are one with the same root the one is the other
-one_with_both : (of type : TypeId) (n m : ℕ) (s : Root) → is_one_root (Temporary of n) s ≡ true → is_one_root (Temporary type m) s ≡ true → is_one_root (Temporary of n) (Temporary type m) ≡ true
-one_with_both of type n m s e f =
-    let same : Temporary type m ≡ Temporary of n = sym (temporary_is type m s f) ∙ temporary_is of n s e in
-    subst (λ t. is_one_root (Temporary of n) t ≡ true) (sym same) (one_with_itself of n)
-
--- what is among all and is not the first is among the others
-pub any_late : (a b : Bool) → a ≡ false → (a || b) ≡ true → b ≡ true
-any_late a b p e = subst (λ t. (t || b) ≡ true) p e
-
 module _ (core : Core) where
   -- a temporary takes whole words
   root_whole : (root : Root) → size_of_root core root % 4 ≡ 0
@@ -177,7 +138,7 @@ module _ (core : Core) where
           let size : size_of_root core r ≡ rounded (size_in core of) = ap (size_of_root core) (temporary_is of n r o) in
           let later = end_later (offset + size_of_root core r) rs in
           omega (arith, size, later)
-      by false o rest = rest (any_late (is_one_root (Temporary of n) r) (list_any (is_one_root (Temporary of n)) rs) o e)
+      by false o rest = rest (or_second (is_one_root (Temporary of n) r) (list_any (is_one_root (Temporary of n)) rs) o e)
 
   -- two temporaries lie one behind the other
   pub offsets_apart : (of type : TypeId) (n m offset : ℕ) (roots : List Root) → is_one_root (Temporary of n) (Temporary type m) ≡ false → list_any (is_one_root (Temporary of n)) roots ≡ true → list_any (is_one_root (Temporary type m)) roots ≡ true → (offset_of core (Temporary of n) offset roots + rounded (size_in core of) ≤ offset_of core (Temporary type m) offset roots) ⊎ (offset_of core (Temporary type m) offset roots + rounded (size_in core type) ≤ offset_of core (Temporary of n) offset roots)
@@ -197,4 +158,4 @@ module _ (core : Core) where
           let later = offset_later (Temporary of n) (offset + size_of_root core r) rs in
           inr (omega (arith, size, later))
       by false false o p rest =
-          rest (any_late (is_one_root (Temporary of n) r) (list_any (is_one_root (Temporary of n)) rs) o e) (any_late (is_one_root (Temporary type m) r) (list_any (is_one_root (Temporary type m)) rs) p f)
+          rest (or_second (is_one_root (Temporary of n) r) (list_any (is_one_root (Temporary of n)) rs) o e) (or_second (is_one_root (Temporary type m) r) (list_any (is_one_root (Temporary type m)) rs) p f)

@@ -4,6 +4,7 @@ use Rattle.std.proofs.lemmas.Bool.{eq-eqb, or_left, or_right}
 use Rattle.std.proofs.lemmas.List.Folds.{list_any-append}
 use Rattle.std.specs.List.{list_any}
 use Rattle.op_core.specs.declared.program.Core.{Core}
+use Rattle.op_expand.proofs.RoomLemmas.{one_with_itself}
 use Rattle.op_expand.specs.Frames.{frame_of}
 use Rattle.op_expand.specs.Homes.{is_one_root, roots_of, with_action, with_block, with_call, with_given, with_instruction, with_place, with_receiver, with_root, with_temporary}
 use Rattle.op_mir.specs.declared.action.Action.TheVariants.{Constant, Load, Store, Copy, Look, BeginWith, Pick, Compute, Write, WriteText}
@@ -20,7 +21,6 @@ use Rattle.op_mir.specs.declared.instruction.Receiver.{Receiver}
 use Rattle.op_mir.specs.declared.path.Root.TheVariants.{Global, Local, Through, Temporary}
 use Rattle.op_mir.specs.declared.path.Root.{Root}
 use Rattle.op_agreement.proofs.Homes.{named_stored}
-use Rattle.op_agreement.proofs.Rooms.{one_with_itself}
 use Rattle.op_agreement.specs.Framing.{HasVariables}
 use Rattle.op_agreement.specs.Settings.{HasGiven, HasHomes, HasReceiver, HasRoots, HaveGiven, HaveHomes, IsPlaced, IsRooted}
 

@@ -6,8 +6,9 @@ use Rattle.op_constants.specs.Offsets.{size_in}
 use Rattle.op_core.specs.Rows.{rows}
 use Rattle.op_core.specs.declared.program.Core.{Core}
 use Rattle.op_core.specs.declared.routine.Variable.{Variable}
+use Rattle.op_expand.proofs.RoomLemmas.{behind_grows, room_grows}
 use Rattle.op_expand.specs.Frames.{bank_of, first_room, frame_of, parameters_of, spare_from, variables_room}
-use Rattle.op_expand.specs.Homes.{home_at, home_by, homes_from, keeping_of, parameter, room_behind, room_by, roots_of}
+use Rattle.op_expand.specs.Homes.{home_at, home_by, homes_from, keeping_of, parameter, room_by, roots_of}
 use Rattle.op_expand.specs.declared.frame.Frame.{Frame}
 use Rattle.op_expand.specs.declared.homes.Home.TheVariants.{Held, Stored, Shared}
 use Rattle.op_expand.specs.declared.homes.Home.{Home}
@@ -24,20 +25,6 @@ use Rattle.op_agreement.specs.Settings.{Setting}
 use Rattle.op_agreement.specs.Stands.{IsFloor}
 
 -- ---- rooms
-
--- a variable takes no register, or one
-room_grows : (keeping : Keeping) (size : ℕ) (room : Room) → room.register ≤ (room_by keeping size room).register
-room_grows AsGiven size room = omega arith
-room_grows InRegister size room = omega arith
-room_grows InMemory size room = omega arith
-
--- and so do more of them
-behind_grows : (core : Core) (parameters : ℕ) (roots : List Root) (k : ℕ) (room : Room) (vs : List Variable) → room.register ≤ (room_behind core parameters roots k room vs).register
-behind_grows core parameters roots k room [] = omega arith
-behind_grows core parameters roots k room (v ∷ vs) =
-    let here = room_grows (keeping_of core parameters roots k v) (size_in core v.of) room in
-    let rest = behind_grows core parameters roots (k + 1) (room_by (keeping_of core parameters roots k v) (size_in core v.of) room) vs in
-    omega arith
 
 -- ---- variables in registers
 

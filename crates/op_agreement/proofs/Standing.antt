@@ -4,7 +4,7 @@ use Rattle.std.specs.Prelude.{◌^◌, map}
 use Rattle.std.specs.List.{flat_map}
 use Rattle.op_compute.specs.Meaning.{IsWordOf}
 use Rattle.op_compute.specs.Straight.{at}
-use Rattle.op_constants.specs.Literals.{instruction_literals, literals_in, literals_of}
+use Rattle.op_constants.specs.Literals.{instruction_literals, literals_of}
 use Rattle.op_expand.specs.Homes.{home_at, parameter}
 use Rattle.op_expand.specs.declared.homes.Home.TheVariants.{Held}
 use Rattle.op_low.specs.State.{State}
@@ -31,14 +31,14 @@ abbrev pub here : MirState → (ℕ → Floor) → Floor
 here m floors = floors (length m.callers)
 
 -- the instruction i stands next, and the code of others behind it
-pub record Next (g : Setting) (m : MirState) (l : State) (floors : ℕ → Floor) (i : Instruction) (is : List Instruction) (id : ℕ) : Type 0 where
+pub record Next (g : Setting) (m : MirState) (l : State) (floors : ℕ → Floor) (i : Instruction) (is : List Instruction) : Type 0 where
   pub stays : Stays g floors m l
   pub ending : m.world.ending ≡ GoingOn
   pub frames : m.frames ≡ []
   pub above : m.rest ≡ view_instruction g.core (here m floors).number i ∷ map (view_instruction g.core (here m floors).number) is
-  pub below : l.top.now ≡ code_for g.core g.mir (here m floors).frame id i ++ code_of g.core g.mir (here m floors).frame (here m floors).number (id + literals_in g.core (here m floors).number i) is
-  pub literals : AreLiterals (literals_of g.core g.mir) id (instruction_literals g.core (here m floors).number i)
-  pub others : AreLiterals (literals_of g.core g.mir) (id + literals_in g.core (here m floors).number i) (flat_map (instruction_literals g.core (here m floors).number) is)
+  pub below : l.top.now ≡ code_for g.core g.mir (here m floors).frame i ++ code_of g.core g.mir (here m floors).frame (literals_of g.core g.mir) is
+  pub literals : AreLiterals (literals_of g.core g.mir) (instruction_literals g.core (here m floors).number i)
+  pub others : AreLiterals (literals_of g.core g.mir) (flat_map (instruction_literals g.core (here m floors).number) is)
   pub fine : IsFine g.core g.mir (here m floors).number (here m floors).routine i
   pub paid : IsPaid g.mir (here m floors).number (here m floors).routine i
   pub on : Leaves i ⊎ AreFine g.core g.mir (here m floors).number (here m floors).routine is
@@ -46,12 +46,9 @@ pub record Next (g : Setting) (m : MirState) (l : State) (floors : ℕ → Floor
   pub more : HaveHomes g.core (here m floors).number (here m floors).frame is
 
 -- literals in two lists, one behind the other
-pub literals_split : (all : List (List ℕ)) (id : ℕ) (xs ys : List (List ℕ)) → AreLiterals all id (xs ++ ys) → AreLiterals all id xs × AreLiterals all (id + length xs) ys
-literals_split all id [] ys are = let e : id ≡ id + 0 = omega arith in (tt, subst (λ n. AreLiterals all n ys) e are)
-literals_split all id (x ∷ xs) ys (first, rest) =
-    let (front, back) = literals_split all (id + 1) xs ys rest in
-    let e : id + 1 + length xs ≡ id + suc (length xs) = omega arith in
-    ((first, front), subst (λ n. AreLiterals all n ys) e back)
+pub literals_split : (all xs ys : List (List ℕ)) → AreLiterals all (xs ++ ys) → AreLiterals all xs × AreLiterals all ys
+literals_split all [] ys are = (tt, are)
+literals_split all (x ∷ xs) ys (first, rest) = let (front, back) = literals_split all xs ys rest in ((first, front), back)
 
 -- the step of managed code is that of its next instruction
 pub step_is : (g : Setting) (m : MirState) (i : Instr) (rest : List Instr) → m.world.ending ≡ GoingOn → m.world.raised ≡ None → m.frames ≡ [] → m.rest ≡ i ∷ rest → mir_step (managed g) m ≡ execute (managed g) i (record m { rest = rest })

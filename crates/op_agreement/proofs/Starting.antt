@@ -7,11 +7,13 @@ use Rattle.std.proofs.lemmas.Bool.Decides.{nat_tests}
 use Rattle.std.proofs.lemmas.List.{length-replicate}
 use Rattle.std.proofs.lemmas.List.Concat.{flat_map-cons}
 use Rattle.std.proofs.lemmas.Option.{slice_get-map, slice_get_past}
+use Rattle.op_constants.specs.Literals.{literals_of}
 use Rattle.op_constants.proofs.FirstLies.{first_lies, zeros_lie}
-use Rattle.op_constants.proofs.TypesArranged.{some_at, type_is_arranged}
+use Rattle.op_constants.proofs.TypesArranged.{type_is_arranged}
 use Rattle.op_constants.proofs.Lying.{kept, number-same}
 use Rattle.op_constants.proofs.Zeros.{nothing_lies}
 use Rattle.op_constants.specs.Lies.{Lies, arrangement_of}
+use Rattle.op_core.proofs.Rows.{there_is}
 use Rattle.op_core.specs.Initial.{FirstValue}
 use Rattle.op_core.specs.declared.ids.RoutineId.{RoutineId}
 use Rattle.op_core.specs.declared.program.Core.{Core}
@@ -177,7 +179,7 @@ module _ (g : Setting) (fit : IsFitting g) (loaded : IsLoaded g) (input : List �
 
   addressed : (rest : List LowInstruction) → Goes g 1 1 (begun (slice_index []) (Address left (Global (record { 0 = length g.core.variables })) ∷ rest)) (begun with_address rest)
   unfolding act
-  addressed rest = goes_one g (begun (slice_index []) []) (slice_index []) (Address left (Global (record { 0 = length g.core.variables }))) rest
+  addressed rest = goes_one g (begun (slice_index []) []) (slice_index []) (Address left (Global (record { 0 = length g.core.variables }))) rest refl
 
   stack_read : word_at memory_first (stack_address g) ≡ g.stack
   stack_read = let below = loaded.stack_below in number-same Signed32 g.loaded memory_first (stack_address g) (stack_address g) (λ x low. low_kept (stack_address g + x) (omega arith)) ∙ loaded.stack_told
@@ -193,7 +195,7 @@ module _ (g : Setting) (fit : IsFitting g) (loaded : IsLoaded g) (input : List �
       let m = begun with_address rest in
       goes_to g 1 (begun with_address (Load Lw left left (pos 0) ∷ rest)) (act g.low g.placement (Load Lw left left (pos 0)) m) (begun told rest)
       (ap (λ x. load g.placement Lw left x m) plain ∙ cond-true (can_access (λ x. g.placement.rights.readable x && nat_lt x (g.bottom + locals_here)) a 4) (keep left (word_at memory_first a) m) (bad m) can ∙ ap (λ w. keep left w m) stack_read)
-      (goes_one g m with_address (Load Lw left left (pos 0)) rest)
+      (goes_one g m with_address (Load Lw left left (pos 0)) rest refl)
 
   -- ---- values
 
@@ -237,13 +239,13 @@ module _ (g : Setting) (fit : IsFitting g) (loaded : IsLoaded g) (input : List �
   first_block block is =
       let stands = fits.expanded.blocks 0 block is in
       let returns : (floors_first 0).frame.returning ≡ TheEnd = fits.frame.returning ∙ main_returning g g.core number_here refl in
-      let rest = code_of g.core g.mir (floors_first 0).frame number_here stands.id block.code in
+      let rest = code_of g.core g.mir (floors_first 0).frame (literals_of g.core g.mir) block.code in
       let front : beginning g.core (floors_first 0).frame number_here ≡ begun_with_stack g.core = rw returns refl in
       let now : block_of g.low g.low.entry.0 0 ≡ begun_with_stack g.core ++ rest = ap (λ r. block_of g.low r 0) loaded.entry ∙ stands.code ∙ ap (λ c. c ++ rest) front in
       let above : block_at (blocks_in (program_in g) number_here) 0 ≡ map (view_instruction g.core number_here) block.code =
       ap (λ bs. block_at bs 0) (sym loaded.blocks) ∙ ap (λ x. block_at (view_routine g.core number_here x) 0) found
       ∙ ap block_or (slice_get-map (view_block g.core number_here) main.blocks 0 ∙ ap (option_map (view_block g.core number_here)) is) in
-      let position : Position g (floors_first 0) (block_at (blocks_in (program_in g) number_here) 0) rest = record { is = block.code; id = stands.id; above = above; below = refl; literals = stands.literals; fine = fits.fine 0 block is; homes = fits.homes 0 block is } in
+      let position : Position g (floors_first 0) (block_at (blocks_in (program_in g) number_here) 0) rest = record { is = block.code; above = above; below = refl; literals = stands.literals; fine = fits.fine 0 block is; homes = fits.homes 0 block is } in
       let room = loaded.room in
       let space_is : space g.low g.placement g.low.entry.0 ≡ space g.low g.placement low_number = ap (space g.low g.placement) loaded.entry in
       let behind = fits.frame.behind in
@@ -303,4 +305,4 @@ module _ (g : Setting) (fit : IsFitting g) (loaded : IsLoaded g) (input : List �
       byte x (inr high) less = subst (λ b. b < 2 ^ 8) (sym (zero_here x high less)) (omega arith)
 
   pub starts : Starts g input
-  starts = let (block, is) = some_at main.blocks 0 fits.some in first_block block is
+  starts = let (block, is) = there_is main.blocks 0 fits.some in first_block block is

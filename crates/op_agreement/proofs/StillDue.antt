@@ -78,9 +78,9 @@ dispatch_keeps c (pos (suc (suc (suc (suc (suc x)))))) t k m n p = p
 dispatch_keeps c (negsuc x) t k m n p = p
 
 module _ (g : Setting) (fit : IsFitting g) (m : MirState) (l : State) (floors : ℕ → Floor) (due : AreStillDue g m) where
-  module _ (i : Instruction) (is : List Instruction) (id : ℕ) (next : Next g m l floors i is id) where
+  module _ (i : Instruction) (is : List Instruction) (next : Next g m l floors i is) where
     abbrev behind : MirState
-    behind = record m { rest = rest_above g m l floors i is id next }
+    behind = record m { rest = rest_above g m l floors i is next }
 
     abbrev view : Instr
     view = view_instruction g.core (here m floors).number i
@@ -97,7 +97,7 @@ module _ (g : Setting) (fit : IsFitting g) (m : MirState) (l : State) (floors : 
     -- of an instruction that the program itself does not have
     kept : (IsLight i → ⊥) → Keeps m (execute (managed g) view behind) → AreStillDue g (mir_step (managed g) m)
     kept heavy keeps =
-        subst (AreStillDue g) (sym (step_here g fit m l floors i is id next))
+        subst (AreStillDue g) (sym (step_here g fit m l floors i is next))
         (kept_due g m (execute (managed g) view behind) next.frames keeps.callers keeps.pending (λ none. absurd (heavy (light_here none))) due)
 
     same_here : Keeps m behind
@@ -105,9 +105,9 @@ module _ (g : Setting) (fit : IsFitting g) (m : MirState) (l : State) (floors : 
 
   -- ---- instructions
 
-  act_due : (a : _) (landing : _) (is : List Instruction) (id : ℕ) → Next g m l floors (Act a landing) is id → AreStillDue g (mir_step (managed g) m)
+  act_due : (a : _) (landing : _) (is : List Instruction) → Next g m l floors (Act a landing) is → AreStillDue g (mir_step (managed g) m)
   unfolding execute
-  act_due a landing is id next = kept (Act a landing) is id next (λ light. light) (record { callers = refl; pending = refl })
+  act_due a landing is next = kept (Act a landing) is next (λ light. light) (record { callers = refl; pending = refl })
 
   -- a call: the caller waits with what was left
   begun_due : (r : ℕ) (receiver : Receiver) (handed : Option (List Handed)) (rest : List Instr) → m.frames ≡ [] → (m.callers ≡ [] → dues_in rest ≡ dues_in m.rest) → AreStillDue g (mir_called_with (managed g) r receiver handed (record m { rest = rest }))
@@ -118,38 +118,38 @@ module _ (g : Setting) (fit : IsFitting g) (m : MirState) (l : State) (floors : 
       by true over = rw over (kept_due g m (mir_fails (managed g) 202 (record m { rest = rest })) none refl refl same due)
       by false under = rw under (λ open_. same_rest m.rest rest m.callers same ∙ due open_.1)
 
-  pub instruction_due : (i : Instruction) (is : List Instruction) (id : ℕ) → Next g m l floors i is id → AreStillDue g (mir_step (managed g) m)
+  pub instruction_due : (i : Instruction) (is : List Instruction) → Next g m l floors i is → AreStillDue g (mir_step (managed g) m)
   unfolding execute
-  instruction_due (Act a landing) is id next = act_due a landing is id next
-  instruction_due (Jump block) is id next = kept (Jump block) is id next (λ light. light) (goes_keeps (managed g) block.0 m (behind (Jump block) is id next) (same_here (Jump block) is id next))
-  instruction_due (When t block) is id next =
-      let keeps = same_here (When t block) is id next in
-      let n = behind (When t block) is id next in
-      kept (When t block) is id next (λ light. light) (either_keeps (is_true (number_at m.world t.0)) m (go_to (managed g) block.0 n) n (goes_keeps (managed g) block.0 m n keeps) keeps)
-  instruction_due (Unless t block) is id next =
-      let keeps = same_here (Unless t block) is id next in
-      let n = behind (Unless t block) is id next in
-      kept (Unless t block) is id next (λ light. light) (either_keeps (is_true (number_at m.world t.0)) m n (go_to (managed g) block.0 n) keeps (goes_keeps (managed g) block.0 m n keeps))
-  instruction_due (Switch t arms) is id next =
-      kept (Switch t arms) is id next (λ light. light) (switches_keep (managed g) (arm_for (number_at m.world t.0) (map view_arm arms)) m (behind (Switch t arms) is id next) (same_here (Switch t arms) is id next))
-  instruction_due (Dispatch t block) is id next =
-      kept (Dispatch t block) is id next (λ light. light) (dispatch_keeps (managed g) (number_at m.world t.0) t.0 block.0 m (behind (Dispatch t block) is id next) (same_here (Dispatch t block) is id next))
-  instruction_due (Call r call) is id next =
-      subst (AreStillDue g) (sym (step_here g fit m l floors (Call r call) is id next))
-      (begun_due r.0 (view_receiver call.receiver) (all_handed m.world (map view_given call.given)) (rest_above g m l floors (Call r call) is id next) next.frames (λ none. sym (ap dues_in next.above)))
-  instruction_due (MakeDue f) is id next =
-      let alone = main_alone g fit m l floors is id f due next in
-      let rest = rest_above g m l floors (MakeDue f) is id next in
-      let others = (drop_first (finalizations g.core) (dues_in rest) f (length m.pending) (sym (first_is g fit m l floors is id f due next))).2 in
-      subst (AreStillDue g) (sym (step_here g fit m l floors (MakeDue f) is id next)) (λ open_. ap (λ cs. dues_in (lowest_rest rest cs)) alone ∙ sym others)
-  instruction_due (Stop t) is id next =
-      let n = behind (Stop t) is id next in
+  instruction_due (Act a landing) is next = act_due a landing is next
+  instruction_due (Jump block) is next = kept (Jump block) is next (λ light. light) (goes_keeps (managed g) block.0 m (behind (Jump block) is next) (same_here (Jump block) is next))
+  instruction_due (When t block) is next =
+      let keeps = same_here (When t block) is next in
+      let n = behind (When t block) is next in
+      kept (When t block) is next (λ light. light) (either_keeps (is_true (number_at m.world t.0)) m (go_to (managed g) block.0 n) n (goes_keeps (managed g) block.0 m n keeps) keeps)
+  instruction_due (Unless t block) is next =
+      let keeps = same_here (Unless t block) is next in
+      let n = behind (Unless t block) is next in
+      kept (Unless t block) is next (λ light. light) (either_keeps (is_true (number_at m.world t.0)) m n (go_to (managed g) block.0 n) keeps (goes_keeps (managed g) block.0 m n keeps))
+  instruction_due (Switch t arms) is next =
+      kept (Switch t arms) is next (λ light. light) (switches_keep (managed g) (arm_for (number_at m.world t.0) (map view_arm arms)) m (behind (Switch t arms) is next) (same_here (Switch t arms) is next))
+  instruction_due (Dispatch t block) is next =
+      kept (Dispatch t block) is next (λ light. light) (dispatch_keeps (managed g) (number_at m.world t.0) t.0 block.0 m (behind (Dispatch t block) is next) (same_here (Dispatch t block) is next))
+  instruction_due (Call r call) is next =
+      subst (AreStillDue g) (sym (step_here g fit m l floors (Call r call) is next))
+      (begun_due r.0 (view_receiver call.receiver) (all_handed m.world (map view_given call.given)) (rest_above g m l floors (Call r call) is next) next.frames (λ none. sym (ap dues_in next.above)))
+  instruction_due (MakeDue f) is next =
+      let alone = main_alone g fit m l floors is f due next in
+      let rest = rest_above g m l floors (MakeDue f) is next in
+      let others = (drop_first (finalizations g.core) (dues_in rest) f (length m.pending) (sym (first_is g fit m l floors is f due next))).2 in
+      subst (AreStillDue g) (sym (step_here g fit m l floors (MakeDue f) is next)) (λ open_. ap (λ cs. dues_in (lowest_rest rest cs)) alone ∙ sym others)
+  instruction_due (Stop t) is next =
+      let n = behind (Stop t) is next in
       let status = low_eight (number_at m.world t.0) in
-      subst (AreStillDue g) (sym (step_here g fit m l floors (Stop t) is id next ∙ ap (λ fs. mir_closes status fs n) next.frames)) (closed_due g (record n { frames = closing status ∷ [] }) status [] refl)
-  instruction_due Return is id next = subst (AreStillDue g) (sym (step_here g fit m l floors Return is id next)) (by m.callers refl)
+      subst (AreStillDue g) (sym (step_here g fit m l floors (Stop t) is next ∙ ap (λ fs. mir_closes status fs n) next.frames)) (closed_due g (record n { frames = closing status ∷ [] }) status [] refl)
+  instruction_due Return is next = subst (AreStillDue g) (sym (step_here g fit m l floors Return is next)) (by m.callers refl)
     where
       n : MirState
-      n = record m { rest = rest_above g m l floors Return is id next }
+      n = record m { rest = rest_above g m l floors Return is next }
 
       by : (cs : List MirCaller) → m.callers ≡ cs → AreStillDue g (mir_returned (managed g) cs n)
       by [] none = subst (AreStillDue g) (sym (ap (λ fs. mir_closes 0 fs n) next.frames)) (closed_due g (record n { frames = closing 0 ∷ [] }) 0 [] refl)

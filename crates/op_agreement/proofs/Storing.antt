@@ -1,7 +1,7 @@
 -- Stores, and looks at places.
 use Rattle.std.proofs.Common.{◌≡◌, ◌≢◌, ◌≤◌, ◌<◌, ◌⊎◌, inl, inr, ℕ, ℤ, ◌+◌, List, [], ◌∷◌, ◌++◌, length, Option, Some, None, refl, sym, ap, ap₂, ◌∙◌, subst, arith, append_assoc, ◌*◌}
 use Rattle.std.specs.Prelude.{◌^◌, ◌%◌, map, pos, Bool, true, false, ◌&&◌, nat_eq, nat_le, nat_lt, if◌then◌else◌}
-use Rattle.std.proofs.lemmas.Bool.{cases_eq}
+use Rattle.std.proofs.lemmas.Bool.{and_parts, cases_eq}
 use Rattle.std.proofs.lemmas.Bool.Decides.{nat_tests}
 use Rattle.op_compute.proofs.ConversionLemmas.{low_bits}
 use Rattle.op_compute.proofs.Registers.{put_lower}
@@ -46,7 +46,7 @@ use Rattle.op_mir.specs.declared.path.Path.{Path}
 use Rattle.op_mir.specs.declared.path.Root.TheVariants.{Global, Local, Through, Temporary}
 use Rattle.op_mir.specs.declared.path.Root.{Root}
 use Rattle.op_mir.specs.declared.path.Step.{Step}
-use Rattle.op_agreement.proofs.Branching.{begins_here, both_true, has_of, step_here, turned}
+use Rattle.op_agreement.proofs.Branching.{begins_here, has_of, step_here, turned}
 use Rattle.op_agreement.proofs.Cases.{behind_act}
 use Rattle.op_agreement.proofs.Charting.{same_is}
 use Rattle.op_agreement.proofs.Computing.{rest_above, rest_below, rest_stands}
@@ -174,9 +174,9 @@ low_bits_some to from Signed16 = refl
 low_bits_some to from Unsigned16 = refl
 low_bits_some to from Signed32 = refl
 
-module _ (g : Setting) (fit : IsFitting g) (m : MirState) (l : State) (floors : ℕ → Floor) (is : List Instruction) (id : ℕ) where
+module _ (g : Setting) (fit : IsFitting g) (m : MirState) (l : State) (floors : ℕ → Floor) (is : List Instruction) where
   abbrev NextIs : Instruction → Type 0
-  NextIs i = Next g m l floors i is id
+  NextIs i = Next g m l floors i is
 
   abbrev frame : Rattle.op_expand.specs.declared.frame.Frame.Frame
   frame = (here m floors).frame
@@ -195,37 +195,37 @@ module _ (g : Setting) (fit : IsFitting g) (m : MirState) (l : State) (floors : 
         let bank = frame.bank in
         let (of, shape, typed) = next.fine.1 in
         let (variable, type) = typed.root in
-        let (has_from, fits_path) = both_true (has (here m floors).routine from) _ next.fine.0 in
+        let (has_from, fits_path) = and_parts (has (here m floors).routine from) _ next.fine.0 in
         let low_from = has_of (here m floors).routine from has_from in
         let (above, below) = subst (HomeFits frame) home (fits.homes v variable.0) in
         let i = Stores (Local v) [] landing in
         let code = low_bits_code r kind (register_of bank from) in
         let some = low_bits_some r (register_of bank from) kind in
-        let is_code : code_for g.core g.mir frame id i ≡ code = rw home refl in
+        let is_code : code_for g.core g.mir frame i ≡ code = rw home refl in
         let o : Operands = record { to = r; left = register_of bank from; right = register_of bank from } in
         let apart : IsApart (work_of bank) o = record { to = omega arith; left = omega arith; right = omega arith; second = omega arith; third = omega arith } in
         let x = number_at m.world from.0 in
-        let rest = rest_below g m l floors i is id next in
+        let rest = rest_below g m l floors i is next in
         let straight = goes_straight g l code rest l.top.registers in
         let answers = low_bits (work_of bank) o l.top.registers x apart (a.kept.temporaries from.0 low_from) kind in
         let plain : IsPlainWorld (with_value (all_of (local m.world.depth v.0)) (number (low_bits_of kind x)) m.world) = plain_perform g.core fit.program.exceptions (view_action g.core (here m floors).number (Store (record { root = Local v; steps = [] }) kind from)) m.world s.plain in
-        by (outcome code l.top.registers) straight answers (begins_here g fit m l floors i is id next code is_code) some variable
+        by (outcome code l.top.registers) straight answers (begins_here g fit m l floors i is next code is_code) some variable
         (subst (λ d. IsPlainWorld (with_value (all_of (local d v.0)) (number (low_bits_of kind x)) m.world)) s.depth plain)
-        (step_here g fit m l floors i is id next ∙ ap (λ d. record m { world = with_value (all_of (local d v.0)) (number (low_bits_of kind x)) m.world; rest = rest_above g m l floors i is id next }) s.depth)
+        (step_here g fit m l floors i is next ∙ ap (λ d. record m { world = with_value (all_of (local d v.0)) (number (low_bits_of kind x)) m.world; rest = rest_above g m l floors i is next }) s.depth)
       where
-        by : (o : Outcome) → GoesTo g (fewest_steps (low_bits_code r kind (register_of frame.bank from))) (length (low_bits_code r kind (register_of frame.bank from))) l (at l l.top.registers (low_bits_code r kind (register_of frame.bank from) ++ rest_below g m l floors (Stores (Local v) [] landing) is id next)) (rest_below g m l floors (Stores (Local v) [] landing) is id next) o → Answers (work_of frame.bank) r l.top.registers (gives (low_bits_of kind (number_at m.world from.0))) o → l ≡ at l l.top.registers (low_bits_code r kind (register_of frame.bank from) ++ rest_below g m l floors (Stores (Local v) [] landing) is id next) → fewest_steps (low_bits_code r kind (register_of frame.bank from)) ≡ 1 → IsVariable g.core (here m floors).number v.0 false → IsPlainWorld (with_value (all_of (local (length m.callers) v.0)) (number (low_bits_of kind (number_at m.world from.0))) m.world) → mir_step (managed g) m ≡ record m { world = with_value (all_of (local (length m.callers) v.0)) (number (low_bits_of kind (number_at m.world from.0))) m.world; rest = rest_above g m l floors (Stores (Local v) [] landing) is id next } → Comes g m l
+        by : (o : Outcome) → GoesTo g (fewest_steps (low_bits_code r kind (register_of frame.bank from))) (length (low_bits_code r kind (register_of frame.bank from))) l (at l l.top.registers (low_bits_code r kind (register_of frame.bank from) ++ rest_below g m l floors (Stores (Local v) [] landing) is next)) (rest_below g m l floors (Stores (Local v) [] landing) is next) o → Answers (work_of frame.bank) r l.top.registers (gives (low_bits_of kind (number_at m.world from.0))) o → l ≡ at l l.top.registers (low_bits_code r kind (register_of frame.bank from) ++ rest_below g m l floors (Stores (Local v) [] landing) is next) → fewest_steps (low_bits_code r kind (register_of frame.bank from)) ≡ 1 → IsVariable g.core (here m floors).number v.0 false → IsPlainWorld (with_value (all_of (local (length m.callers) v.0)) (number (low_bits_of kind (number_at m.world from.0))) m.world) → mir_step (managed g) m ≡ record m { world = with_value (all_of (local (length m.callers) v.0)) (number (low_bits_of kind (number_at m.world from.0))) m.world; rest = rest_above g m l floors (Stores (Local v) [] landing) is next } → Comes g m l
         by (Behind h) goes answers begins some variable plain step =
-            let rest = rest_below g m l floors (Stores (Local v) [] landing) is id next in
+            let rest = rest_below g m l floors (Stores (Local v) [] landing) is next in
             let n = low_bits_of kind (number_at m.world from.0) in
             record {
               to = at l h rest;
               goes = goes_within g 1 (most_for_one * mir_cost (managed g) m) l (at l h rest)
                   (subst (λ k. Goes g k (length (low_bits_code r kind (register_of frame.bank from))) l (at l h rest)) some (goes_from g _ l _ (at l h rest) begins goes))
-                  (afford g fit m l floors (Stores (Local v) [] landing) is id next (λ light. light) (length (low_bits_code r kind (register_of frame.bank from))) (let short = low_bits_short r kind (register_of frame.bank from) in omega arith));
-              stands = subst (λ k. Stands g k (at l h rest)) (sym step) (stands_on g (record m { world = with_value (all_of (local (length m.callers) v.0)) (number n) m.world; rest = rest_above g m l floors (Stores (Local v) [] landing) is id next }) (at l h rest) next.ending next.frames (record {
+                  (afford g fit m l floors (Stores (Local v) [] landing) is next (λ light. light) (length (low_bits_code r kind (register_of frame.bank from))) (let short = low_bits_short r kind (register_of frame.bank from) in omega arith));
+              stands = subst (λ k. Stands g k (at l h rest)) (sym step) (stands_on g (record m { world = with_value (all_of (local (length m.callers) v.0)) (number n) m.world; rest = rest_above g m l floors (Stores (Local v) [] landing) is next }) (at l h rest) next.ending next.frames (record {
                 floors = floors;
-                stays = stays_variable g floors m l next.stays v.0 r.0 n variable home (rest_above g m l floors (Stores (Local v) [] landing) is id next) h rest answers.result (λ q low other. answers.others q (omega arith) other) plain;
-                position = rest_stands g m l floors (Stores (Local v) [] landing) is id next (behind_act next.on);
+                stays = stays_variable g floors m l next.stays v.0 r.0 n variable home (rest_above g m l floors (Stores (Local v) [] landing) is next) h rest answers.result (λ q low other. answers.others q (omega arith) other) plain;
+                position = rest_stands g m l floors (Stores (Local v) [] landing) is next (behind_act next.on);
               }));
             }
         by (Away block h) goes answers begins some variable plain step = absurd answers
@@ -240,8 +240,8 @@ module _ (g : Setting) (fit : IsFitting g) (m : MirState) (l : State) (floors : 
     abbrev sw : Path → LowInstruction
     sw path = StoreWord (store_op kind) (register_of frame.bank from) (spot_placed path).base (pos (spot_placed path).offset)
 
-    store_by : (path : Path) (landing : Option BlockId) (next : NextIs (Act (Store path kind from) landing)) (of : TypeId) → Rattle.op_meaning.specs.Shapes.shape_of g.core of ≡ Rattle.op_meaning.specs.Shapes.single kind → PathTo g.core (here m floors).number (view_path path) of → from.0 < (here m floors).routine.temporaries → (o : Option Place) → place_meant m.world (view_path path) ≡ o → l ≡ at l l.top.registers (store_code_placed path ++ (sw path ∷ rest_below g m l floors (Act (Store path kind from) landing) is id next)) → PlaceTo g fit m l floors next.stays (fewest_steps (store_code_placed path)) (place_most path) (at l l.top.registers (store_code_placed path ++ (sw path ∷ rest_below g m l floors (Act (Store path kind from) landing) is id next))) l.top.registers (scratch_of frame.bank 0) (spot_placed path) (sw path ∷ rest_below g m l floors (Act (Store path kind from) landing) is id next) of o → mir_step (managed g) m ≡ record m { world = at_place g.core o (λ p. with_value p (number (low_bits_of kind (number_at m.world from.0))) m.world) m.world; rest = rest_above g m l floors (Act (Store path kind from) landing) is id next } → IsPlainWorld (at_place g.core o (λ p. with_value p (number (low_bits_of kind (number_at m.world from.0))) m.world) m.world) → Comes g m l
-    store_by path landing next of shape typed low_from None e begins fails step plain = index_fails g fit m l floors is id (Act (Store path kind from) landing) next _ (place_most path) _ begins fails (afford g fit m l floors (Act (Store path kind from) landing) is id next (λ light. light) (place_most path + 5) (omega arith)) step
+    store_by : (path : Path) (landing : Option BlockId) (next : NextIs (Act (Store path kind from) landing)) (of : TypeId) → Rattle.op_meaning.specs.Shapes.shape_of g.core of ≡ Rattle.op_meaning.specs.Shapes.single kind → PathTo g.core (here m floors).number (view_path path) of → from.0 < (here m floors).routine.temporaries → (o : Option Place) → place_meant m.world (view_path path) ≡ o → l ≡ at l l.top.registers (store_code_placed path ++ (sw path ∷ rest_below g m l floors (Act (Store path kind from) landing) is next)) → PlaceTo g fit m l floors next.stays (fewest_steps (store_code_placed path)) (place_most path) (at l l.top.registers (store_code_placed path ++ (sw path ∷ rest_below g m l floors (Act (Store path kind from) landing) is next))) l.top.registers (scratch_of frame.bank 0) (spot_placed path) (sw path ∷ rest_below g m l floors (Act (Store path kind from) landing) is next) of o → mir_step (managed g) m ≡ record m { world = at_place g.core o (λ p. with_value p (number (low_bits_of kind (number_at m.world from.0))) m.world) m.world; rest = rest_above g m l floors (Act (Store path kind from) landing) is next } → IsPlainWorld (at_place g.core o (λ p. with_value p (number (low_bits_of kind (number_at m.world from.0))) m.world) m.world) → Comes g m l
+    store_by path landing next of shape typed low_from None e begins fails step plain = index_fails g fit m l floors is (Act (Store path kind from) landing) next _ (place_most path) _ begins fails (afford g fit m l floors (Act (Store path kind from) landing) is next (λ light. light) (place_most path + 5) (omega arith)) step
     store_by path landing next of shape typed low_from (Some q) e begins reached step plain =
         let i = Act (Store path kind from) landing in
         let s = next.stays in
@@ -250,7 +250,7 @@ module _ (g : Setting) (fit : IsFitting g) (m : MirState) (l : State) (floors : 
         let bank = frame.bank in
         let small = small_last g.core typed.from of (map view_step path.steps) typed.reaches typed.small in
         let spot = spot_placed path in
-        let rest = rest_below g m l floors i is id next in
+        let rest = rest_below g m l floors i is next in
         let x = number_at m.world from.0 in
         let same : reached.h (register_of bank from).0 ≡ l.top.registers (register_of bank from).0 = reached.kept (register_of bank from).0 (omega arith) in
         let word : IsWordOf (reached.h (register_of bank from).0) x = subst (λ v. IsWordOf v x) (sym same) (a.kept.temporaries from.0 low_from) in
@@ -262,29 +262,29 @@ module _ (g : Setting) (fit : IsFitting g) (m : MirState) (l : State) (floors : 
           to = k;
           goes = goes_within g 1 (most_for_one * mir_cost (managed g) m) l k
               (goes_from g 1 l _ k begins (goes_then g _ 1 1 _ (at l reached.h (sw path ∷ rest)) k (omega arith) reached.goes stores.goes))
-              (afford g fit m l floors i is id next (λ light. light) (place_most path + 1) (omega arith));
-          stands = subst (λ y. Stands g y k) (sym step) (stands_on g (record m { world = with_value q (number (low_bits_of kind x)) m.world; rest = rest_above g m l floors i is id next }) k next.ending next.frames (record {
+              (afford g fit m l floors i is next (λ light. light) (place_most path + 1) (omega arith));
+          stands = subst (λ y. Stands g y k) (sym step) (stands_on g (record m { world = with_value q (number (low_bits_of kind x)) m.world; rest = rest_above g m l floors i is next }) k next.ending next.frames (record {
             floors = floors;
-            stays = stays_put g fit floors m l s q of (reached.h spot.base.0 + spot.offset) reached.is (omega arith) small (number (low_bits_of kind x)) stores.memory stores.changed (rest_above g m l floors i is id next) reached.h rest plain stores.bytes stores.lies
+            stays = stays_put g fit floors m l s q of (reached.h spot.base.0 + spot.offset) reached.is (omega arith) small (number (low_bits_of kind x)) stores.memory stores.changed (rest_above g m l floors i is next) reached.h rest plain stores.bytes stores.lies
                 (λ r low. reached.kept r (omega arith))
                 (λ t low. subst (λ y. IsWordOf y (number_in (m.world.temps t))) (sym (reached.kept (bank.temporaries + t) (omega arith))) (a.kept.temporaries t low));
-            position = rest_stands g m l floors i is id next (behind_act next.on);
+            position = rest_stands g m l floors i is next (behind_act next.on);
           }));
         }
 
-    store_placed : (path : Path) (landing : Option BlockId) (next : NextIs (Act (Store path kind from) landing)) → IsPlaced g.core (here m floors).number frame path.root → code_for g.core g.mir frame id (Act (Store path kind from) landing) ≡ store_code_placed path ++ sw path ∷ [] → Comes g m l
+    store_placed : (path : Path) (landing : Option BlockId) (next : NextIs (Act (Store path kind from) landing)) → IsPlaced g.core (here m floors).number frame path.root → code_for g.core g.mir frame (Act (Store path kind from) landing) ≡ store_code_placed path ++ sw path ∷ [] → Comes g m l
     unfolding execute perform action_fits load_fits
     store_placed path landing next placed code =
         let i = Act (Store path kind from) landing in
         let s = next.stays in
         let (of, shape, typed) = next.fine.1 in
-        let (has_from, fits_path) = both_true (has (here m floors).routine from) _ next.fine.0 in
+        let (has_from, fits_path) = and_parts (has (here m floors).routine from) _ next.fine.0 in
         let indices = indices_in g.mir (here m floors).routine path fits_path in
-        let rest = rest_below g m l floors i is id next in
-        let begins : l ≡ at l l.top.registers (store_code_placed path ++ (sw path ∷ rest)) = begins_here g fit m l floors i is id next (store_code_placed path ++ sw path ∷ []) code ∙ ap (at l l.top.registers) (append_assoc (store_code_placed path) (sw path ∷ []) rest) in
+        let rest = rest_below g m l floors i is next in
+        let begins : l ≡ at l l.top.registers (store_code_placed path ++ (sw path ∷ rest)) = begins_here g fit m l floors i is next (store_code_placed path ++ sw path ∷ []) code ∙ ap (at l l.top.registers) (append_assoc (store_code_placed path) (sw path ∷ []) rest) in
         store_by path landing next of shape typed (has_of (here m floors).routine from has_from) (place_meant m.world (view_path path)) refl begins
         (place_goes g fit m l floors s path of near (scratch_of frame.bank 0) l.top.registers (sw path ∷ rest) typed placed indices (omega arith) (λ r below. refl))
-        (step_here g fit m l floors i is id next)
+        (step_here g fit m l floors i is next)
         (plain_perform g.core fit.program.exceptions (view_action g.core (here m floors).number (Store path kind from)) m.world s.plain)
 
     abbrev store_by_home : LocalId → Option VirtualRegister → List LowInstruction
@@ -307,7 +307,7 @@ module _ (g : Setting) (fit : IsFitting g) (m : MirState) (l : State) (floors : 
     store_at (Through v) steps landing next = store_placed (record { root = Through v; steps = steps }) landing next tt refl
     store_at (Temporary of n) steps landing next = store_placed (record { root = Temporary of n; steps = steps }) landing next next.homes refl
     store_at (Local v) [] landing next = store_local v landing next (home_at frame.homes v) refl (next.stays.activation.floor.fits.homes v next.fine.1.2.root.0.0)
-    store_at (Local v) (st ∷ ss) landing next = store_placed (record { root = Local v; steps = st ∷ ss }) landing next (placed_part g fit m l floors is id (Act (Store (record { root = Local v; steps = st ∷ ss }) kind from) landing) next v st ss next.fine.1.0 next.fine.1.2) refl
+    store_at (Local v) (st ∷ ss) landing next = store_placed (record { root = Local v; steps = st ∷ ss }) landing next (placed_part g fit m l floors is (Act (Store (record { root = Local v; steps = st ∷ ss }) kind from) landing) next v st ss next.fine.1.0 next.fine.1.2) refl
 
     pub store_comes : (path : Path) (landing : Option BlockId) → NextIs (Act (Store path kind from) landing) → Comes g m l
     store_comes path landing next = store_at path.root path.steps landing next
@@ -315,9 +315,9 @@ module _ (g : Setting) (fit : IsFitting g) (m : MirState) (l : State) (floors : 
   -- ---- looks
 
   -- a look at a variable that a register has
-  pub look_empty : (path : Path) (landing : Option BlockId) (next : NextIs (Act (Look path) landing)) → code_for g.core g.mir frame id (Act (Look path) landing) ≡ Const (scratch_of frame.bank 0) 0 ∷ [] → (q : Place) → place_meant m.world (view_path path) ≡ Some q → Comes g m l
+  pub look_empty : (path : Path) (landing : Option BlockId) (next : NextIs (Act (Look path) landing)) → code_for g.core g.mir frame (Act (Look path) landing) ≡ Const (scratch_of frame.bank 0) 0 ∷ [] → (q : Place) → place_meant m.world (view_path path) ≡ Some q → Comes g m l
   unfolding outcome execute perform
   look_empty path landing next code q e =
-      turned g fit m l floors (Act (Look path) landing) is id next (Const (scratch_of frame.bank 0) 0 ∷ []) None code refl (afford g fit m l floors (Act (Look path) landing) is id next (λ light. light) 1 (omega arith)) (λ none. behind_act next.on) (λ k e. absurd cc)
+      turned g fit m l floors (Act (Look path) landing) is next (Const (scratch_of frame.bank 0) 0 ∷ []) None code refl (afford g fit m l floors (Act (Look path) landing) is next (λ light. light) 1 (omega arith)) (λ none. behind_act next.on) (λ k e. absurd cc)
       (λ r low. put_lower l.top.registers (scratch_of frame.bank 0) 0 r low)
-      (step_here g fit m l floors (Act (Look path) landing) is id next ∙ ap (λ o. record m { world = at_place g.core o (λ p. m.world) m.world; rest = rest_above g m l floors (Act (Look path) landing) is id next }) e)
+      (step_here g fit m l floors (Act (Look path) landing) is next ∙ ap (λ o. record m { world = at_place g.core o (λ p. m.world) m.world; rest = rest_above g m l floors (Act (Look path) landing) is next }) e)

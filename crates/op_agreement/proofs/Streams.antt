@@ -1,7 +1,9 @@
 -- The bytes of each stream: what low code shows is what its output grows by, and what managed code shows is what lies between two worlds.
 use Rattle.std.proofs.Common.{◌≡◌, ℕ, zero, suc, List, [], ◌∷◌, ◌++◌, length, true, false, refl, sym, ap, ap₂, ◌∙◌, append_assoc, append-nil, subst}
-use Rattle.std.specs.Prelude.{Bool, not, ◌&&◌, map, nat_lt, Option, Some, None, if◌then◌else◌}
-use Rattle.std.specs.List.{flat_map}
+use Rattle.std.specs.Prelude.{Bool, IsTrue, not, ◌&&◌, ◌||◌, map, nat_lt, Option, Some, None, if◌then◌else◌}
+use Rattle.std.specs.List.{flat_map, list_any}
+use Rattle.std.proofs.lemmas.Bool.{or_left, or_right}
+use Rattle.std.proofs.lemmas.List.Folds.{list_any-append}
 use Rattle.std.proofs.lemmas.List.Concat.{flat_map-append, flat_map-cons}
 use Rattle.op_core.specs.declared.program.Core.{Core}
 use Rattle.op_low.specs.Machine.{Event, Written, Taken, act, call, call_found, can_enter, done, left, load, low_machine, raise_to, read, return_to, shown_by, shown_if, shown_next, shows, step, step_by_ending, store, taken, write, written}
@@ -13,7 +15,7 @@ use Rattle.op_low.specs.declared.instruction.Instruction.TheVariants.{Const, Add
 use Rattle.op_low.specs.declared.instruction.Output.{Output}
 use Rattle.op_low.specs.declared.instruction.Output.TheVariants.{Console, Errors}
 use Rattle.op_meaning.specs.Demands.{Demand, nothing, block as a_block, block_of, is_standing}
-use Rattle.op_meaning.specs.Source.{Event as Shown, LetGo, Taken as TakenAbove, Written as WrittenAbove, Reported, behind, taken as taken_above}
+use Rattle.op_meaning.specs.Source.{Event as Shown, LetGo, Taken as TakenAbove, Written as WrittenAbove, Reported, behind, is_of_input, taken as taken_above}
 use Rattle.op_meaning.specs.Holding.{each}
 use Rattle.op_meaning.specs.World.{World}
 use Rattle.op_mir.specs.Machine.{asked, looked, shown_between, where_some}
@@ -24,13 +26,23 @@ use Rattle.std.specs.Int.{bytes_low_first}
 use Rattle.op_simulation.specs.Matching.{Joins}
 use Rattle.op_simulation.specs.System.{run, trace}
 use Rattle.op_agreement.specs.Claims.{SameBytes, console_above, console_below, errors_above, errors_below}
+use Rattle.op_agreement.specs.Steps.{is_read}
+
+-- what is so of either of two, or of the first or the second
+input_both : (a b x y : Bool) → (IsTrue a → IsTrue x) → (IsTrue b → IsTrue y) → IsTrue (a || b) → IsTrue (x || y)
+input_both true b x y first second is = or_left x y (first refl)
+input_both false b x y first second is = or_right x y (second is)
 
 pub joins_bytes : Joins SameBytes
 joins_bytes = record {
-  none = record { console = refl; errors = refl };
+  none = record { console = refl; errors = refl; input = λ is. is };
   both = λ xs ys us vs first second. record {
     console = flat_map-append console_above xs ys ∙ ap₂ (λ a b. a ++ b) first.console second.console ∙ sym (flat_map-append console_below us vs);
     errors = flat_map-append errors_above xs ys ∙ ap₂ (λ a b. a ++ b) first.errors second.errors ∙ sym (flat_map-append errors_below us vs);
+    input =
+        λ is.
+        list_any-append is_of_input xs ys
+        ∙ input_both (list_any is_read us) (list_any is_read vs) (list_any is_of_input xs) (list_any is_of_input ys) first.input second.input (sym (list_any-append is_read us vs) ∙ is);
   };
 }
 
@@ -224,13 +236,14 @@ behind_front : (xs ys : List ℕ) → behind xs (xs ++ ys) ≡ ys
 behind_front [] ys = refl
 behind_front (x ∷ xs) ys = behind_front xs ys
 
--- where both outputs are equal before and after, the same bytes were shown
-pub same_bytes : (core : Core) (b : Bool) (v w : World) (l k : State) (events : List Event) → l.output ≡ v.output → l.errors ≡ v.errors → k.output ≡ w.output → k.errors ≡ w.errors → Grows l k events → SameBytes (shown_between core b v w) events
-same_bytes core b v w l k events output errors new_output new_errors grows = record {
+-- where both outputs are equal before and after, and the input was not read, the same was shown
+pub same_bytes : (core : Core) (b : Bool) (v w : World) (l k : State) (events : List Event) → l.output ≡ v.output → l.errors ≡ v.errors → k.output ≡ w.output → k.errors ≡ w.errors → Grows l k events → list_any is_read events ≡ false → SameBytes (shown_between core b v w) events
+same_bytes core b v w l k events output errors new_output new_errors grows unread = record {
   console =
       console_between core b v w ∙ ap (behind v.output) (sym new_output ∙ grows.output ∙ ap (λ x. x ++ flat_map console_below events) output)
       ∙ behind_front v.output (flat_map console_below events);
   errors =
       errors_between core b v w ∙ ap (behind v.errors) (sym new_errors ∙ grows.errors ∙ ap (λ x. x ++ flat_map errors_below events) errors)
       ∙ behind_front v.errors (flat_map errors_below events);
+  input = λ is. let clash : false ≡ true = sym unread ∙ is in absurd cc;
 }

@@ -37,6 +37,43 @@ use Rattle.op_agreement.specs.Settings.{Setting, StoredAt}
 use Rattle.op_agreement.specs.Stands.{IsFloor}
 use Rattle.op_agreement.specs.Typed.{IsVariable}
 
+-- ---- where a variable is stored
+
+-- a variable of the routine under way is stored in its locals
+pub record IsStored (g : Setting) (f : Floor) (l : State) (v : LocalId) (offset size : ℕ) : Type 0 where
+  pub floor : IsFloor g f
+  pub limit : l.limit ≡ f.base + f.frame.locals
+  pub words : f.base % 4 ≡ 0
+  pub top : l.limit + l.room ≤ g.top
+  pub variable : IsVariable g.core f.number v.0 false
+  pub home : home_at f.frame.homes v ≡ Stored offset
+  pub typed : size ≡ size_in g.core (type_of_local g.core f.number v.0)
+
+-- it lies within them, by whole words
+pub record LiesWithin (g : Setting) (f : Floor) (l : State) (offset size : ℕ) : Type 0 where
+  pub whole : (f.base + offset) % 4 ≡ 0
+  pub within : f.base + offset + size ≤ l.limit
+  pub rounded_in : f.base + offset + rounded size ≤ l.limit
+  pub high : l.limit ≤ g.top
+  pub low : l.limit < 2 ^ 32
+  pub inside : offset + size ≤ f.frame.locals
+
+pub stored_within : (g : Setting) → IsFitting g → (f : Floor) (l : State) (v : LocalId) (offset size : ℕ) → IsStored g f l v offset size → LiesWithin g f l offset size
+stored_within g fit f l v offset size is =
+    let fits = is.floor.fits in
+    let inside = fits.within (Local v) offset (is.variable, is.home) in
+    let words = fits.words (Local v) offset (is.variable, is.home) in
+    let locals = fits.whole in
+    let limit = is.limit in
+    let base = is.words in
+    let same = is.typed in
+    let top = is.top in
+    let end = fit.placed.top in
+    let whole : (f.base + offset) % 4 ≡ 0 = omega arith in
+    let within : f.base + offset + size ≤ l.limit = omega arith in
+    let limit_whole : l.limit % 4 ≡ 0 = omega arith in
+    record { whole = whole; within = within; rounded_in = rounded_within (f.base + offset) l.limit size whole limit_whole within; high = omega arith; low = omega arith; inside = omega arith }
+
 -- ---- what is asked
 
 -- A variable of the routine under way is stored in its locals, and a register has the address of so many bytes that may be read and end
@@ -88,32 +125,8 @@ module _ (g : Setting) (fit : IsFitting g) (f : Floor) (l : State) (from : Virtu
   taking = call take_number (to ∷ from ∷ []) from
 
   -- the variable lies within the locals, by whole words
-  stored_at : StoredAt g.core f.number f.frame (Local v) offset
-  stored_at = (can.variable, can.home)
-
-  record LiesWithin : Type 0 where
-    whole : a % 4 ≡ 0
-    within : a + size ≤ l.limit
-    rounded_in : a + rounded size ≤ l.limit
-    high : l.limit ≤ g.top
-    low : l.limit < 2 ^ 32
-
-  -- and so do its whole words
-  lies_within : LiesWithin
-  lies_within =
-      let fits = can.floor.fits in
-      let inside = fits.within (Local v) offset stored_at in
-      let words = fits.words (Local v) offset stored_at in
-      let locals = fits.whole in
-      let limit = can.limit in
-      let base = can.words in
-      let is = can.typed in
-      let top = can.top in
-      let end = fit.placed.top in
-      let whole : a % 4 ≡ 0 = omega arith in
-      let within : a + size ≤ l.limit = omega arith in
-      let limit_whole : l.limit % 4 ≡ 0 = omega arith in
-      record { whole = whole; within = within; rounded_in = rounded_within a l.limit size whole limit_whole within; high = omega arith; low = omega arith }
+  lies_within : LiesWithin g f l offset size
+  lies_within = stored_within g fit f l v offset size (record { floor = can.floor; limit = can.limit; words = can.words; top = can.top; variable = can.variable; home = can.home; typed = can.typed })
 
   -- ---- the code
 
@@ -142,15 +155,14 @@ module _ (g : Setting) (fit : IsFitting g) (f : Floor) (l : State) (from : Virtu
   -- ---- some bytes
 
   module _ (some : 0 < size) where
-    within_here : LiesWithin
+    within_here : LiesWithin g f l offset size
     within_here = lies_within
 
     -- with some bytes the code is this
     code_is : taken_code g.core f.frame from size v ++ rest ≡ at_place
     unfolding taken_code
     code_is =
-        let inside = can.floor.fits.within (Local v) offset stored_at in
-        let size_is = can.typed in
+        let inside = within_here.inside in
         let more : nat_eq size 0 ≡ false = grind (arith, nat_tests) in
         let less : nat_lt offset f.frame.locals ≡ true = grind (arith, nat_tests) in
         let reach : reach_code 0 (home_spot to (Stored offset)) ≡ [] = refl in
@@ -183,7 +195,7 @@ module _ (g : Setting) (fit : IsFitting g) (f : Floor) (l : State) (from : Virtu
         let at_ : l.limit - (routine_of g.low l.top.routine).locals + offset ≡ a = omega arith in
         goes_to g 1 (at l l.top.registers at_place) (at l (put l.top.registers to (l.limit - (routine_of g.low l.top.routine).locals + offset)) at_word) (at l placed at_word)
         (ap (λ x. at l (put l.top.registers to x) at_word) at_)
-        (goes_one g l l.top.registers (LocalAddress to offset) at_word)
+        (goes_one g l l.top.registers (LocalAddress to offset) at_word refl)
 
     -- the register still has the address of the bytes
     from_placed : placed from.0 ≡ source
@@ -205,7 +217,7 @@ module _ (g : Setting) (fit : IsFitting g) (f : Floor) (l : State) (from : Virtu
     -- and how many they are
     size_goes : Goes g 1 1 (at there placed at_size) (at there sized at_call)
     unfolding act put
-    size_goes = goes_one g there placed (Const from size) at_call
+    size_goes = goes_one g there placed (Const from size) at_call refl
 
     -- ---- the call
 
@@ -300,7 +312,7 @@ module _ (g : Setting) (fit : IsFitting g) (f : Floor) (l : State) (from : Virtu
               (goes_then g 1 2 0 (at l l.top.registers at_place) (at l placed at_word) end (omega arith) address_goes
               (goes_then g 1 1 2 (at l placed at_word) (at there placed at_size) end (omega arith) word_goes
               (goes_then g 1 0 1 (at there placed at_size) (at there sized at_call) end (omega arith) size_goes
-              (goes_path g c.steps 0 (192 + 6 * size) (at there sized at_call) end (omega arith) c.path))))) (omega arith);
+              (goes_path g c.steps 0 (192 + 6 * size) (at there sized at_call) end (omega arith) c.path refl))))) (omega arith);
           kept = λ r low other. put_other sized from c.value r other ∙ put_other placed from size r other ∙ put_lower l.top.registers to a r (omega arith);
           others = byte_far l.memory c.memory a source size l.limit some below inside can.bytes c.copied;
           copied = byte_taken l.memory c.memory a source size l.limit some below inside can.bytes c.copied;

@@ -2,7 +2,7 @@
 use Rattle.std.proofs.Common.{◌≡◌, ◌≤◌, ◌<◌, inl, ℕ, suc, ◌+◌, ◌-◌, List, [], ◌∷◌, length, None, refl, sym, ap, ◌∙◌, subst, arith}
 use Rattle.op_compute.specs.Bank.{scratch_of}
 use Rattle.op_compute.specs.Meaning.{IsWordOf}
-use Rattle.op_constants.proofs.TypesArranged.{some_at}
+use Rattle.op_core.proofs.Rows.{there_is}
 use Rattle.op_core.specs.declared.ids.RoutineId.{RoutineId}
 use Rattle.op_expand.specs.Calls.{receiver_of, result_address, runtime}
 use Rattle.op_low.specs.State.{Activation, Caller, State, routine_of, space}
@@ -41,17 +41,17 @@ result_waits g old new d same declared nowhere c address goes = tt
 result_waits g old new d same declared (to_temp t) c address goes = subst (λ (f : Floor). t < f.routine.temporaries) (sym (same d (omega arith))) goes
 result_waits g old new d same declared (to_place of path) c address (n, is, at_, small) = (n, is, at_moved g old new d same (record { holder = temporary d of n; path = [] }) of address at_, small)
 
-module _ (g : Setting) (fit : IsFitting g) (m : MirState) (l : State) (floors : ℕ → Floor) (callee : RoutineId) (call : Operands) (js : List Instruction) (id : ℕ) (next : Next g m l floors (Call callee call) js id) (b : Begins g m l floors callee.0 call (rest_below g m l floors (Call callee call) js id next)) where
+module _ (g : Setting) (fit : IsFitting g) (m : MirState) (l : State) (floors : ℕ → Floor) (callee : RoutineId) (call : Operands) (js : List Instruction) (next : Next g m l floors (Call callee call) js) (b : Begins g m l floors callee.0 call (rest_below g m l floors (Call callee call) js next)) where
   abbrev rest : List LowInstruction
-  rest = rest_below g m l floors (Call callee call) js id next
+  rest = rest_below g m l floors (Call callee call) js next
 
   -- the activation of the caller, as it waits
   abbrev pub waiting : Activation
-  waiting = record l.top { registers = b.registers; now = rest_below g m l floors (Call callee call) js id next }
+  waiting = record l.top { registers = b.registers; now = rest_below g m l floors (Call callee call) js next }
 
   -- the caller goes on behind the call
-  pub waiting_position : Position g (here m floors) (rest_above g m l floors (Call callee call) js id next) (rest_below g m l floors (Call callee call) js id next)
-  waiting_position = rest_stands g m l floors (Call callee call) js id next (behind_act next.on)
+  pub waiting_position : Position g (here m floors) (rest_above g m l floors (Call callee call) js next) (rest_below g m l floors (Call callee call) js next)
+  waiting_position = rest_stands g m l floors (Call callee call) js next (behind_act next.on)
 
   -- its activation stands as it did, with other scratch registers
   pub waiting_stands : ActivationStands g floors (length m.callers) m.world.memory m.world.bound m.world.temps m.routine waiting l.limit l.room m.charged
@@ -76,12 +76,12 @@ module _ (g : Setting) (fit : IsFitting g) (m : MirState) (l : State) (floors : 
 
   -- With floors that are the same up to the present depth, and values that are, the caller and those below it stand as callers of the routine
   -- that begins, whose locals are those of its low code.
-  pub caller_waits : (new : ℕ → Floor) (values : Holder → Value) (bound : ℕ → ℕ → Place) → SameFloors floors new (length m.callers) → SameUpTo (length m.callers) m.world.memory values m.world.bound bound → (new (suc (length m.callers))).frame.locals ≡ (routine_of g.low (runtime + callee.0)).locals → CallersStand g new values bound (mir_caller_of (record m { rest = rest_above g m l floors (Call callee call) js id next }) (view_receiver call.receiver) ∷ m.callers) (record { activation = waiting; to = b.to; landing = None } ∷ l.callers) callee.0 b.result (l.limit + (routine_of g.low (runtime + callee.0)).locals) (l.room - space g.low g.placement (runtime + callee.0)) (m.charged + (managed g).charge callee.0)
+  pub caller_waits : (new : ℕ → Floor) (values : Holder → Value) (bound : ℕ → ℕ → Place) → SameFloors floors new (length m.callers) → SameUpTo (length m.callers) m.world.memory values m.world.bound bound → (new (suc (length m.callers))).frame.locals ≡ (routine_of g.low (runtime + callee.0)).locals → CallersStand g new values bound (mir_caller_of (record m { rest = rest_above g m l floors (Call callee call) js next }) (view_receiver call.receiver) ∷ m.callers) (record { activation = waiting; to = b.to; landing = None } ∷ l.callers) callee.0 b.result (l.limit + (routine_of g.low (runtime + callee.0)).locals) (l.room - space g.low g.placement (runtime + callee.0)) (m.charged + (managed g).charge callee.0)
   caller_waits new values bound same kept locals =
       let d = length m.callers in
       let a = next.stays.activation in
       let s = next.stays in
-      let (x, there) = some_at g.mir.routines callee.0 next.fine.0 in
+      let (x, there) = there_is g.mir.routines callee.0 next.fine.0 in
       let room = room_for g fit callee.0 x next.fine.0 there (l.top.registers 0) m.charged l.room a.left a.enough b.charged in
       let space_there = room.space in
       let low : callee.0 < length g.mir.routines = next.fine.0 in
@@ -114,7 +114,7 @@ module _ (g : Setting) (fit : IsFitting g) (m : MirState) (l : State) (floors : 
         goes,
         s.plain.temps,
         s.plain.made,
-        subst (λ f. Position g f (rest_above g m l floors (Call callee call) js id next) rest) floor_same waiting_position,
+        subst (λ f. Position g f (rest_above g m l floors (Call callee call) js next) rest) floor_same waiting_position,
         activation_moved g floors new m.world.memory values m.world.bound bound d same (λ v r is home. kept.variables d v (omega arith)) (λ v is. kept.places d v (omega arith)) m.world.temps m.routine waiting l.limit l.room m.charged waiting_stands,
         subst (λ address. CallersStand g new values bound m.callers l.callers m.routine address l.limit l.room m.charged) (sym first)
             (callers_moved g floors new m.world.memory values m.world.bound bound m.callers l.callers m.routine (l.top.registers result_address.0) l.limit l.room m.charged unchanged s.callers),

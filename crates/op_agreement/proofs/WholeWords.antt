@@ -1,5 +1,5 @@
 -- Whole words in memory: what is rounded up to them, and a word that is stored.
-use Rattle.std.proofs.Common.{◌≡◌, ◌≤◌, ◌<◌, ℕ, ◌+◌, ◌-◌, List, ◌∷◌, length, ap, ◌∙◌, arith, cond, get_or, ◌⊎◌, inl, inr, sym, subst}
+use Rattle.std.proofs.Common.{◌≡◌, ◌≤◌, ◌<◌, ℕ, ◌+◌, ◌-◌, List, ◌∷◌, length, ap, ◌∙◌, arith, cond, get_or, ◌⊎◌, inl, inr, sym, subst, refl}
 use Rattle.std.specs.Prelude.{◌^◌, ◌%◌, pos, true, false, ◌&&◌, nat_le, nat_lt}
 use Rattle.std.specs.Int.{bytes_low_first}
 use Rattle.std.proofs.lemmas.Bool.{cond-true, cases_lt}
@@ -11,8 +11,7 @@ use Rattle.op_low.specs.State.{State, bad, usable}
 use Rattle.op_low.specs.declared.ids.VirtualRegister.{VirtualRegister}
 use Rattle.op_low.specs.declared.instruction.Instruction.{Instruction as LowInstruction}
 use Rattle.op_low.specs.declared.instruction.Instruction.TheVariants.{Store as StoreWord}
-use Rattle.op_rt_text.proofs.CopyRun.{byte_from, length-bytes_from}
-use Rattle.op_rv.proofs.Memory.{four-bounded, with_bytes-below, with_bytes-outside, with_bytes-within}
+use Rattle.op_rv.proofs.Memory.{byte_from, four-bounded, length-bytes_from, with_bytes-below, with_bytes-outside, with_bytes-within}
 use Rattle.op_rv.specs.State.{bytes_from, with_bytes}
 use Rattle.op_rv.specs.Step.{can_access, offset_from}
 use Rattle.op_rv.specs.declared.instruction.StoreOp.TheVariants.{Sw}
@@ -48,7 +47,7 @@ word_stores g l h from base off a v rest there has whole below word may =
     (ap (λ x. store g.placement Sw (h from.0) x (at l h rest)) at_
     ∙ cond-true (can_access (usable g.placement.rights.writable (at l h rest)) a 4) (after (h from.0)) (bad (at l h rest)) can
     ∙ ap after has)
-    (goes_one g l h (StoreWord Sw from base (pos off)) rest)
+    (goes_one g l h (StoreWord Sw from base (pos off)) rest refl)
 
 -- ---- bytes that are taken from where a word tells, and put where that stood
 

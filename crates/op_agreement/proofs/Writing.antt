@@ -2,41 +2,7 @@
 use Rattle.std.proofs.Common.{◌≡◌, ◌≤◌, ◌<◌, ℕ, ℤ, zero, suc, ◌+◌, List, [], ◌∷◌, ◌++◌, length, Option, Some, None, refl, sym, ap, ap₂, ◌∙◌, subst, arith, ◌*◌, length-append}
 use Rattle.std.specs.Prelude.{◌^◌, false, codes, nat_eq, replicate, slice_get, slice_index, if◌then◌else◌}
 use Rattle.std.proofs.lemmas.Bool.Decides.{nat_tests}
-use Rattle.op_compute.specs.Bank.{register_of, scratch_of}
-use Rattle.op_compute.specs.Meaning.{IsWordOf}
-use Rattle.op_compute.specs.Straight.{at, put}
-use Rattle.op_compute.proofs.Registers.{put_lower, put_same}
-use Rattle.op_constants.proofs.Lying.{kept}
-use Rattle.op_constants.proofs.TypesArranged.{type_is_arranged}
-use Rattle.op_constants.specs.Lies.{arrangement_of}
-use Rattle.op_constants.specs.Literals.{literals_of}
-use Rattle.op_expand.specs.Calls.{result_address}
-use Rattle.op_low.specs.Machine.{act, low_machine, cost, cost_by}
-use Rattle.op_low.specs.State.{State}
-use Rattle.op_low.specs.declared.ids.VirtualRegister.{VirtualRegister}
-use Rattle.op_low.specs.declared.instruction.Call.{Call as Operands}
-use Rattle.op_low.specs.declared.instruction.Instruction.TheVariants.{Address, Call, Const}
-use Rattle.op_low.specs.declared.instruction.Instruction.{Instruction as LowInstruction}
-use Rattle.op_meaning.specs.Actions.{perform}
-use Rattle.op_meaning.specs.Texts.{padded, text_of_char, text_of_number, text_of_truth, width_of}
-use Rattle.op_meaning.specs.Values.{Holder}
-use Rattle.op_meaning.specs.World.{number_at, written}
-use Rattle.op_mir.specs.Code.{Instr}
-use Rattle.op_mir.specs.Machine.{MirState, execute, mir_step, mir_cost, mir_effort}
-use Rattle.op_mir.specs.Valid.{action_fits, writing_fits}
-use Rattle.op_mir.specs.declared.action.Action.TheVariants.{Write, WriteText}
-use Rattle.op_mir.specs.declared.action.Writing.TheVariants.{Number, Truth, Char}
-use Rattle.op_mir.specs.declared.action.Writing.{Writing}
-use Rattle.op_mir.specs.declared.ids.BlockId.{BlockId}
-use Rattle.op_mir.specs.declared.ids.TemporaryId.{TemporaryId}
-use Rattle.op_mir.specs.declared.instruction.Instruction.TheVariants.{Act}
-use Rattle.op_mir.specs.declared.instruction.Instruction.{Instruction}
-use Rattle.op_rt_text.proofs.Contracts.{bytes_written, char_written, number_written, truth_written}
-use Rattle.op_rt_text.specs.Names.{call, literal, routine_id, write_bytes_number, write_char_number, write_number_number, write_truth_number}
-use Rattle.op_rt_text.specs.Running.{Called, HasRoom, HasTexts, StandsAt, Writes}
-use Rattle.op_rv.specs.State.{bytes_from}
-use Rattle.op_rv.specs.Operation.{signed}
-use Rattle.op_simulation.specs.System.{run, spent}
+use Rattle.std.specs.List.{list_any}
 use Rattle.op_agreement.proofs.Branching.{begins_here, has_of, step_here, two_of}
 use Rattle.op_agreement.proofs.Cases.{behind_act}
 use Rattle.op_agreement.proofs.Charting.{live_stands}
@@ -45,7 +11,7 @@ use Rattle.op_agreement.proofs.Counting.{count_below}
 use Rattle.op_agreement.proofs.Elements.{KeptBelow}
 use Rattle.op_agreement.proofs.ErrorsEnd.{limit_above, literal_there}
 use Rattle.op_agreement.proofs.Following.{Comes}
-use Rattle.op_agreement.proofs.Going.{Goes, goes_from, goes_one, goes_then, goes_to, goes_within, goes_path}
+use Rattle.op_agreement.proofs.Going.{Goes, goes_from, goes_one, goes_then, goes_to, goes_within, goes_path, is_read}
 use Rattle.op_agreement.proofs.Pricing.{cost_is, heavy}
 use Rattle.op_agreement.proofs.Standing.{Next, SameVariables, Temporaries, here, kept_registers, stands_on}
 use Rattle.op_agreement.proofs.Updating.{floors_here, limit_here}
@@ -56,6 +22,48 @@ use Rattle.op_agreement.specs.Settings.{Setting, managed}
 use Rattle.op_agreement.specs.Stands.{CallersStand, Stands, Stays}
 use Rattle.op_agreement.specs.Steps.{most_for_one}
 use Rattle.op_agreement.specs.Typed.{AreFine, IsLight}
+use Rattle.op_compute.proofs.Registers.{put_lower, put_same}
+use Rattle.op_compute.specs.Bank.{register_of, scratch_of}
+use Rattle.op_compute.specs.Meaning.{IsWordOf}
+use Rattle.op_compute.specs.Straight.{at, put}
+use Rattle.op_constants.proofs.Distinct.{stands_at_number}
+use Rattle.op_constants.proofs.Lying.{kept}
+use Rattle.op_constants.proofs.TypesArranged.{type_is_arranged}
+use Rattle.op_constants.specs.Lies.{arrangement_of}
+use Rattle.op_constants.specs.Literals.{literals_of}
+use Rattle.op_constants.specs.Texts.{number_of}
+use Rattle.op_expand.specs.Calls.{result_address}
+use Rattle.op_low.specs.Machine.{act, low_machine, cost, cost_by}
+use Rattle.op_low.specs.State.{State}
+use Rattle.op_low.specs.declared.ids.VirtualRegister.{VirtualRegister}
+use Rattle.op_low.specs.declared.instruction.Call.{Call as Operands}
+use Rattle.op_low.specs.declared.instruction.Instruction.{Instruction as LowInstruction}
+use Rattle.op_low.specs.declared.instruction.Instruction.TheVariants.{Address, Call, Const}
+use Rattle.op_meaning.specs.Actions.{perform}
+use Rattle.op_meaning.specs.Texts.{padded, text_of_char, text_of_number, text_of_truth, width_of}
+use Rattle.op_meaning.specs.Values.{Holder}
+use Rattle.op_meaning.specs.World.{number_at, written}
+use Rattle.op_mir.specs.Code.{Instr}
+use Rattle.op_mir.specs.Machine.{MirState, execute, mir_step, mir_cost, mir_effort}
+use Rattle.op_mir.specs.Valid.{action_fits, writing_fits}
+use Rattle.op_mir.specs.declared.action.Action.TheVariants.{Write, WriteText}
+use Rattle.op_mir.specs.declared.action.Writing.{Writing}
+use Rattle.op_mir.specs.declared.action.Writing.TheVariants.{Number, Truth, Char}
+use Rattle.op_mir.specs.declared.ids.BlockId.{BlockId}
+use Rattle.op_mir.specs.declared.ids.TemporaryId.{TemporaryId}
+use Rattle.op_mir.specs.declared.instruction.Instruction.{Instruction}
+use Rattle.op_mir.specs.declared.instruction.Instruction.TheVariants.{Act}
+use Rattle.op_rt_text.proofs.Contracts.{bytes_written, char_written, number_written, truth_written}
+use Rattle.op_rt_text.specs.Names.{call, literal, routine_id, write_bytes_number, write_char_number, write_number_number, write_truth_number}
+use Rattle.op_rt_text.specs.Running.{Called, HasRoom, HasTexts, StandsAt, Writes, all_written}
+use Rattle.op_rv.specs.Operation.{signed}
+use Rattle.op_rv.specs.State.{bytes_from}
+use Rattle.op_simulation.specs.System.{run, spent}
+
+-- what writes in pieces does not read
+pieces_unread : (pieces : List (List ℕ)) → list_any is_read (all_written pieces) ≡ false
+pieces_unread [] = refl
+pieces_unread (bytes ∷ pieces) = pieces_unread pieces
 
 module _ (g : Setting) (fit : IsFitting g) (m : MirState) (l : State) (floors : ℕ → Floor) (s : Stays g floors m l) where
   -- ---- what run-time routines ask for
@@ -137,9 +145,9 @@ module _ (g : Setting) (fit : IsFitting g) (m : MirState) (l : State) (floors : 
           let below = stands.below in
           kept (arrangement_of g.core (type_held g.core floors h)) (m.world.memory h) l.memory memory (address_of g floors h) arranged.arranged (λ x from to. kept_memory x (omega arith)) (s.lie h live)
 
-module _ (g : Setting) (fit : IsFitting g) (m : MirState) (l : State) (floors : ℕ → Floor) (i : Instruction) (is : List Instruction) (id : ℕ) (next : Next g m l floors i is id) where
+module _ (g : Setting) (fit : IsFitting g) (m : MirState) (l : State) (floors : ℕ → Floor) (i : Instruction) (is : List Instruction) (next : Next g m l floors i is) where
   abbrev rest : List LowInstruction
-  rest = rest_below g m l floors i is id next
+  rest = rest_below g m l floors i is next
 
   abbrev to : VirtualRegister
   to = scratch_of (here m floors).frame.bank 0
@@ -159,15 +167,15 @@ module _ (g : Setting) (fit : IsFitting g) (m : MirState) (l : State) (floors : 
   at_least f number arguments k (suc n) now ends = omega arith
 
   -- what is written is paid for
-  written_costs : (IsLight i → ⊥) → (text : List ℕ) → mir_step (managed g) m ≡ record m { world = written text m.world; rest = rest_above g m l floors i is id next } → 2 + (512 + length text) ≤ most_for_one * mir_cost (managed g) m
+  written_costs : (IsLight i → ⊥) → (text : List ℕ) → mir_step (managed g) m ≡ record m { world = written text m.world; rest = rest_above g m l floors i is next } → 2 + (512 + length text) ≤ most_for_one * mir_cost (managed g) m
   written_costs light text step =
-      let paid = (heavy g fit m l floors i is id next light).least in
-      let cost : mir_cost (managed g) m ≡ mir_effort (managed g) m (record m { world = written text m.world; rest = rest_above g m l floors i is id next }) = cost_is g fit m l floors i is id next ∙ ap (mir_effort (managed g) m) step in
+      let paid = (heavy g fit m l floors i is next light).least in
+      let cost : mir_cost (managed g) m ≡ mir_effort (managed g) m (record m { world = written text m.world; rest = rest_above g m l floors i is next }) = cost_is g fit m l floors i is next ∙ ap (mir_effort (managed g) m) step in
       let long = length-append m.world.output text in
       omega arith
 
   -- the call, behind other code, writes what managed code does
-  pub written_comes : (f : ℕ → ℕ) (number : ℕ) (arguments : List VirtualRegister) (text : List ℕ) → KeptBelow (here m floors).frame.bank.scratch l.top.registers f → (n : ℕ) → Goes g n 2 l (calls f number arguments) → (IsLight i → ⊥) → Writes g.low g.placement (calls f number arguments) (operands arguments) rest text → AreFine g.core g.mir (here m floors).number (here m floors).routine is → mir_step (managed g) m ≡ record m { world = written text m.world; rest = rest_above g m l floors i is id next } → Comes g m l
+  pub written_comes : (f : ℕ → ℕ) (number : ℕ) (arguments : List VirtualRegister) (text : List ℕ) → KeptBelow (here m floors).frame.bank.scratch l.top.registers f → (n : ℕ) → Goes g n 2 l (calls f number arguments) → (IsLight i → ⊥) → Writes g.low g.placement (calls f number arguments) (operands arguments) rest text → AreFine g.core g.mir (here m floors).number (here m floors).routine is → mir_step (managed g) m ≡ record m { world = written text m.world; rest = rest_above g m l floors i is next } → Comes g m l
   written_comes f number arguments text kept_f n goes light writes fine step =
       let s = next.stays in
       let a = s.activation in
@@ -176,15 +184,15 @@ module _ (g : Setting) (fit : IsFitting g) (m : MirState) (l : State) (floors : 
       let scratch = a.floor.fits.scratch in
       let kept_h : KeptBelow (here m floors).frame.bank.scratch l.top.registers h = λ r low. let t : nat_eq r to.0 ≡ false = grind (arith, nat_tests) in ap (λ b. if b then writes.value else f r) t ∙ kept_f r low in
       let some = at_least f number arguments k writes.steps refl writes.path.ends in
-      let call_goes : Goes g 1 (512 + length text) (calls f number arguments) k = goes_path g writes.steps 1 (512 + length text) (calls f number arguments) k some writes.path in
+      let call_goes : Goes g 1 (512 + length text) (calls f number arguments) k = goes_path g writes.steps 1 (512 + length text) (calls f number arguments) k some writes.path (pieces_unread writes.pieces) in
       record {
         to = k;
         goes = goes_within g 1 (most_for_one * mir_cost (managed g) m) l k (goes_then g n 1 1 l (calls f number arguments) k (omega arith) goes call_goes) (written_costs light text step);
-        stands = subst (λ x. Stands g x k) (sym step) (stands_on g (record m { world = written text m.world; rest = rest_above g m l floors i is id next }) k next.ending next.frames (record {
+        stands = subst (λ x. Stands g x k) (sym step) (stands_on g (record m { world = written text m.world; rest = rest_above g m l floors i is next }) k next.ending next.frames (record {
           floors = floors;
-          stays = stays_written g fit m l floors s text (rest_above g m l floors i is id next) h rest writes.memory writes.kept (λ r low. kept_h r (omega arith))
+          stays = stays_written g fit m l floors s text (rest_above g m l floors i is next) h rest writes.memory writes.kept (λ r low. kept_h r (omega arith))
               (λ t low. subst (λ x. IsWordOf x (Rattle.op_meaning.specs.Values.number_in (m.world.temps t))) (sym (kept_h ((here m floors).frame.bank.temporaries + t) (omega arith))) (a.kept.temporaries t low));
-          position = rest_stands g m l floors i is id next fine;
+          position = rest_stands g m l floors i is next fine;
         }));
       }
 
@@ -204,12 +212,12 @@ module _ (g : Setting) (fit : IsFitting g) (m : MirState) (l : State) (floors : 
       words (suc zero) = low_y
       words (suc (suc k)) = omega arith
 
-module _ (g : Setting) (fit : IsFitting g) (m : MirState) (l : State) (floors : ℕ → Floor) (is : List Instruction) (id : ℕ) where
+module _ (g : Setting) (fit : IsFitting g) (m : MirState) (l : State) (floors : ℕ → Floor) (is : List Instruction) where
   abbrev NextIs : Instruction → Type 0
-  NextIs i = Next g m l floors i is id
+  NextIs i = Next g m l floors i is
 
   -- of a number, a Boolean or a Char
-  value_comes : (w : Writing) (landing : Option BlockId) (next : NextIs (Act (Write w) landing)) (number : ℕ) (from width : TemporaryId) (meant : ℤ → List ℕ) → code_for g.core g.mir (here m floors).frame id (Act (Write w) landing) ≡ call number (register_of (here m floors).frame.bank from ∷ register_of (here m floors).frame.bank width ∷ []) (scratch_of (here m floors).frame.bank 0) ∷ [] → from.0 < (here m floors).routine.temporaries → width.0 < (here m floors).routine.temporaries → ((k : State) (operands : Operands) (rest : List LowInstruction) (value wide : ℕ) → HasTexts g.placement k → Called g.low g.placement k number (value ∷ wide ∷ []) operands rest → Writes g.low g.placement k operands rest (padded (width_of (signed wide)) (meant (signed value)))) → mir_step (managed g) m ≡ record m { world = written (padded (width_of (number_at m.world width.0)) (meant (number_at m.world from.0))) m.world; rest = rest_above g m l floors (Act (Write w) landing) is id next } → Comes g m l
+  value_comes : (w : Writing) (landing : Option BlockId) (next : NextIs (Act (Write w) landing)) (number : ℕ) (from width : TemporaryId) (meant : ℤ → List ℕ) → code_for g.core g.mir (here m floors).frame (Act (Write w) landing) ≡ call number (register_of (here m floors).frame.bank from ∷ register_of (here m floors).frame.bank width ∷ []) (scratch_of (here m floors).frame.bank 0) ∷ [] → from.0 < (here m floors).routine.temporaries → width.0 < (here m floors).routine.temporaries → ((k : State) (operands : Operands) (rest : List LowInstruction) (value wide : ℕ) → HasTexts g.placement k → Called g.low g.placement k number (value ∷ wide ∷ []) operands rest → Writes g.low g.placement k operands rest (padded (width_of (signed wide)) (meant (signed value)))) → mir_step (managed g) m ≡ record m { world = written (padded (width_of (number_at m.world width.0)) (meant (number_at m.world from.0))) m.world; rest = rest_above g m l floors (Act (Write w) landing) is next } → Comes g m l
   value_comes w landing next number from width meant code low_from low_width routine step =
       let i = Act (Write w) landing in
       let s = next.stays in
@@ -217,14 +225,14 @@ module _ (g : Setting) (fit : IsFitting g) (m : MirState) (l : State) (floors : 
       let bank = (here m floors).frame.bank in
       let first = a.kept.temporaries from.0 low_from in
       let second = a.kept.temporaries width.0 low_width in
-      let rest = rest_below g m l floors i is id next in
+      let rest = rest_below g m l floors i is next in
       let arguments = register_of bank from ∷ register_of bank width ∷ [] in
       let here_state = at l l.top.registers (Call (routine_id number) (record { arguments = arguments; to = scratch_of bank 0; landing = None }) ∷ rest) in
-      let called = two_called g fit m l floors i is id next number (l.top.registers (register_of bank from).0) (l.top.registers (register_of bank width).0) (register_of bank from) (register_of bank width) refl refl first.bound second.bound in
+      let called = two_called g fit m l floors i is next number (l.top.registers (register_of bank from).0) (l.top.registers (register_of bank width).0) (register_of bank from) (register_of bank width) refl refl first.bound second.bound in
       let writes = routine here_state (record { arguments = arguments; to = scratch_of bank 0; landing = None }) rest (l.top.registers (register_of bank from).0) (l.top.registers (register_of bank width).0) (texts_there g fit m l floors s here_state refl refl) called in
       let text : padded (width_of (signed (l.top.registers (register_of bank width).0))) (meant (signed (l.top.registers (register_of bank from).0))) ≡ padded (width_of (number_at m.world width.0)) (meant (number_at m.world from.0)) = ap₂ (λ u v. padded (width_of u) (meant v)) second.number first.number in
-      written_comes g fit m l floors i is id next l.top.registers number arguments (padded (width_of (number_at m.world width.0)) (meant (number_at m.world from.0))) (λ r low. refl) 0
-      (goes_from g 0 l here_state here_state (begins_here g fit m l floors i is id next (call number arguments (scratch_of bank 0) ∷ []) code) (goes_within g 0 2 here_state here_state (Rattle.op_agreement.proofs.Going.goes_none g here_state) (omega arith)))
+      written_comes g fit m l floors i is next l.top.registers number arguments (padded (width_of (number_at m.world width.0)) (meant (number_at m.world from.0))) (λ r low. refl) 0
+      (goes_from g 0 l here_state here_state (begins_here g fit m l floors i is next (call number arguments (scratch_of bank 0) ∷ []) code) (goes_within g 0 2 here_state here_state (Rattle.op_agreement.proofs.Going.goes_none g here_state) (omega arith)))
       (λ light. light)
       (subst (λ t. Writes g.low g.placement here_state (record { arguments = arguments; to = scratch_of bank 0; landing = None }) rest t) text writes)
       (behind_act next.on) step
@@ -233,17 +241,17 @@ module _ (g : Setting) (fit : IsFitting g) (m : MirState) (l : State) (floors : 
   unfolding code_for execute perform action_fits writing_fits
   write_comes (Number from width) landing next =
       let (p, q) = two_of (here m floors).routine from width next.fine.0 in
-      value_comes (Number from width) landing next write_number_number from width text_of_number refl p q (λ k operands rest value wide. number_written g.low g.placement k operands rest value wide) (step_here g fit m l floors (Act (Write (Number from width)) landing) is id next)
+      value_comes (Number from width) landing next write_number_number from width text_of_number refl p q (λ k operands rest value wide. number_written g.low g.placement k operands rest value wide) (step_here g fit m l floors (Act (Write (Number from width)) landing) is next)
   write_comes (Truth from width) landing next =
       let (p, q) = two_of (here m floors).routine from width next.fine.0 in
-      value_comes (Truth from width) landing next write_truth_number from width text_of_truth refl p q (λ k operands rest value wide. truth_written g.low g.placement k operands rest value wide) (step_here g fit m l floors (Act (Write (Truth from width)) landing) is id next)
+      value_comes (Truth from width) landing next write_truth_number from width text_of_truth refl p q (λ k operands rest value wide. truth_written g.low g.placement k operands rest value wide) (step_here g fit m l floors (Act (Write (Truth from width)) landing) is next)
   write_comes (Char from width) landing next =
       let (p, q) = two_of (here m floors).routine from width next.fine.0 in
-      value_comes (Char from width) landing next write_char_number from width text_of_char refl p q (λ k operands rest value wide. char_written g.low g.placement k operands rest value wide) (step_here g fit m l floors (Act (Write (Char from width)) landing) is id next)
+      value_comes (Char from width) landing next write_char_number from width text_of_char refl p q (λ k operands rest value wide. char_written g.low g.placement k operands rest value wide) (step_here g fit m l floors (Act (Write (Char from width)) landing) is next)
 
   -- of a literal: its address and its length come first
   pub write_text_comes : (text : List ℕ) (width : TemporaryId) (landing : Option BlockId) → NextIs (Act (WriteText text width) landing) → Comes g m l
-  unfolding code_for execute perform action_fits act put run Rattle.op_low.specs.Machine.step Rattle.op_low.specs.Machine.step_by_ending Rattle.op_low.specs.Machine.done spent cost cost_by
+  unfolding code_for execute perform action_fits act put run Rattle.op_low.specs.Machine.step Rattle.op_low.specs.Machine.step_by_ending Rattle.op_low.specs.Machine.done spent cost cost_by Rattle.op_simulation.specs.System.trace Rattle.op_low.specs.Machine.shows Rattle.op_low.specs.Machine.shown_by
   write_text_comes text width landing next =
       let i = Act (WriteText text width) landing in
       let s = next.stays in
@@ -251,11 +259,11 @@ module _ (g : Setting) (fit : IsFitting g) (m : MirState) (l : State) (floors : 
       let bank = (here m floors).frame.bank in
       let low_width = has_of (here m floors).routine width next.fine.0 in
       let wide = a.kept.temporaries width.0 low_width in
-      let rest = rest_below g m l floors i is id next in
+      let rest = rest_below g m l floors i is next in
       let address = scratch_of bank 0 in
       let count = scratch_of bank 1 in
       let arguments = address ∷ count ∷ register_of bank width ∷ [] in
-      let place = g.placement.address (literal id) in
+      let place = g.placement.address (literal (number_of (literals_of g.core g.mir) text)) in
       let f = put (put l.top.registers address place) count (length text) in
       let here_state = at l f (Call (routine_id write_bytes_number) (record { arguments = arguments; to = address; landing = None }) ∷ rest) in
       let scratch = a.floor.fits.scratch in
@@ -264,23 +272,23 @@ module _ (g : Setting) (fit : IsFitting g) (m : MirState) (l : State) (floors : 
       let address_is : f address.0 ≡ place = put_lower (put l.top.registers address place) count (length text) address.0 (omega arith) ∙ put_same l.top.registers address place in
       let count_is : f count.0 ≡ length text = put_same (put l.top.registers address place) count (length text) in
       let short = next.fine.1.0 in
-      let begins = begins_here g fit m l floors i is id next (Address address (literal id) ∷ Const count (length text) ∷ call write_bytes_number arguments address ∷ []) refl in
-      let two : Goes g 2 2 (at l l.top.registers (Address address (literal id) ∷ Const count (length text) ∷ call write_bytes_number arguments address ∷ rest)) here_state = record { steps = 2; enough = omega arith; within = omega arith; ends = refl } in
+      let begins = begins_here g fit m l floors i is next (Address address (literal (number_of (literals_of g.core g.mir) text)) ∷ Const count (length text) ∷ call write_bytes_number arguments address ∷ []) refl in
+      let two : Goes g 2 2 (at l l.top.registers (Address address (literal (number_of (literals_of g.core g.mir) text)) ∷ Const count (length text) ∷ call write_bytes_number arguments address ∷ rest)) here_state = record { steps = 2; enough = omega arith; within = omega arith; ends = refl; unread = refl } in
       let called : Called g.low g.placement here_state write_bytes_number (place ∷ length text ∷ l.top.registers (register_of bank width).0 ∷ []) (record { arguments = arguments; to = address; landing = None }) rest = record {
         runtime = fit.placed.runtime;
         running = refl;
         next = refl;
         passed = ap₂ (λ u v. u ∷ v ∷ f (register_of bank width).0 ∷ []) address_is count_is ∙ ap (λ w. place ∷ length text ∷ w ∷ []) width_is;
-        words = words place (length text) (l.top.registers (register_of bank width).0) (fit.placed.words (literal id)) (omega arith) wide.bound;
+        words = words place (length text) (l.top.registers (register_of bank width).0) (fit.placed.words (literal (number_of (literals_of g.core g.mir) text))) (omega arith) wide.bound;
         room = room_there g fit m l floors s here_state refl refl;
       } in
-      let writes = bytes_written g.low g.placement here_state (record { arguments = arguments; to = address; landing = None }) rest place (l.top.registers (register_of bank width).0) text (texts_there g fit m l floors s here_state refl refl) (text_there g fit m l floors s here_state refl refl id text next.literals.0) short called in
+      let writes = bytes_written g.low g.placement here_state (record { arguments = arguments; to = address; landing = None }) rest place (l.top.registers (register_of bank width).0) text (texts_there g fit m l floors s here_state refl refl) (text_there g fit m l floors s here_state refl refl (number_of (literals_of g.core g.mir) text) text (stands_at_number (literals_of g.core g.mir) text next.literals.0)) short called in
       let same : padded (width_of (signed (l.top.registers (register_of bank width).0))) text ≡ padded (width_of (number_at m.world width.0)) text = ap (λ u. padded (width_of u) text) wide.number in
-      written_comes g fit m l floors i is id next f write_bytes_number arguments (padded (width_of (number_at m.world width.0)) text) kept_f 2
-      (goes_from g 2 l (at l l.top.registers (Address address (literal id) ∷ Const count (length text) ∷ call write_bytes_number arguments address ∷ rest)) here_state begins two)
+      written_comes g fit m l floors i is next f write_bytes_number arguments (padded (width_of (number_at m.world width.0)) text) kept_f 2
+      (goes_from g 2 l (at l l.top.registers (Address address (literal (number_of (literals_of g.core g.mir) text)) ∷ Const count (length text) ∷ call write_bytes_number arguments address ∷ rest)) here_state begins two)
       (λ light. light)
       (subst (λ t. Writes g.low g.placement here_state (record { arguments = arguments; to = address; landing = None }) rest t) same writes)
-      (behind_act next.on) (step_here g fit m l floors i is id next)
+      (behind_act next.on) (step_here g fit m l floors i is next)
     where
       words : (a b c : ℕ) → a < 2 ^ 32 → b < 2 ^ 32 → c < 2 ^ 32 → (k : ℕ) → slice_index (a ∷ b ∷ c ∷ []) k < 2 ^ 32
       words a b c p q r zero = p

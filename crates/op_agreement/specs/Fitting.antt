@@ -2,7 +2,7 @@
 use Rattle.std.specs.Prelude.{◌≡◌, ◌≢◌, ◌<◌, ◌≤◌, ℕ, ◌+◌, ◌%◌, ◌^◌, true, false, List, length, Some, None, slice_get}
 use Rattle.op_constants.specs.Arranged.{IsSmall}
 use Rattle.op_constants.specs.Literals.{literals_of}
-use Rattle.op_constants.specs.Offsets.{size_in}
+use Rattle.op_constants.specs.Offsets.{alignment_in, size_in}
 use Rattle.op_core.specs.Sizes.{KeepsExtents}
 use Rattle.op_core.specs.declared.ids.RoutineId.{RoutineId}
 use Rattle.op_core.specs.declared.ids.TypeId.{TypeId}
@@ -56,10 +56,10 @@ pub record LiteralStands (g : Setting) (at : ℕ) (bytes : List ℕ) : Type 0 wh
   pub below : at + length bytes ≤ g.bottom
   pub stands : bytes_from g.loaded at (length bytes) ≡ bytes
 
--- a global variable stands below the stack, by whole words
+-- a global variable stands below the stack, at a multiple of its type's alignment if it has bytes
 pub record GlobalStands (g : Setting) (v : ℕ) (at size : ℕ) : Type 0 where
   pub type : IsSmall g.core (type_of_variable g.core v)
-  pub words : at % 4 ≡ 0
+  pub aligned : 0 < size → at % alignment_in g.core (type_of_variable g.core v) ≡ 0
   pub readable : (x : ℕ) → at ≤ x → x < at + size → g.placement.rights.readable x ≡ true
   pub writable : (x : ℕ) → at ≤ x → x < at + size → g.placement.rights.writable x ≡ true
   pub below : at + size ≤ g.bottom

@@ -9,17 +9,17 @@ use Rattle.op_expand.specs.Frames.{parameters_of}
 use Rattle.op_expand.specs.Homes.{is_one_root, roots_of}
 use Rattle.op_meaning.specs.Expressions.{result_of}
 use Rattle.op_meaning.specs.Shapes.{type_of_local, variables_of}
-use Rattle.op_mir.specs.declared.action.Action.TheVariants.{Load, Store, Copy, Look}
+use Rattle.op_mir.specs.declared.action.Action.TheVariants.{Constant, Load, Store, Copy, Look, BeginWith, Pick, Compute, Write, WriteText}
 use Rattle.op_mir.specs.declared.action.Action.{Action}
 use Rattle.op_mir.specs.declared.code.Routine.{Routine}
 use Rattle.op_mir.specs.declared.ids.LocalId.{LocalId}
-use Rattle.op_mir.specs.declared.instruction.Given.TheVariants.{ByPlace, ByCopy}
+use Rattle.op_mir.specs.declared.instruction.Given.TheVariants.{ByValue, ByReference, ByPlace, ByCopy}
 use Rattle.op_mir.specs.declared.instruction.Given.{Given}
-use Rattle.op_mir.specs.declared.instruction.Instruction.TheVariants.{Act, Call}
+use Rattle.op_mir.specs.declared.instruction.Instruction.TheVariants.{Act, Call, Jump, When, Unless, Switch, Dispatch, MakeDue, Stop, Return}
 use Rattle.op_mir.specs.declared.instruction.Instruction.{Instruction}
-use Rattle.op_mir.specs.declared.instruction.Receiver.TheVariants.{Place}
+use Rattle.op_mir.specs.declared.instruction.Receiver.TheVariants.{Nowhere, Temporary as ToTemporary, Place}
 use Rattle.op_mir.specs.declared.instruction.Receiver.{Receiver}
-use Rattle.op_mir.specs.declared.path.Root.TheVariants.{Local, Temporary}
+use Rattle.op_mir.specs.declared.path.Root.TheVariants.{Global, Local, Through, Temporary}
 use Rattle.op_mir.specs.declared.path.Root.{Root}
 use Rattle.op_agreement.specs.Typed.{IsVariable}
 
@@ -40,30 +40,45 @@ pub record HasVariables (core : Core) (r : ℕ) (x : Routine) : Type 0 where
 
 -- a temporary of a type whose values are small, and a variable that is no reference
 abbrev pub MayBeNamed : Core → (r : ℕ) → Root → Type 0
-MayBeNamed core r (Temporary of n) = IsSmall core of
+MayBeNamed core r (Global v) = Unit {0}
 MayBeNamed core r (Local v) = IsVariable core r v.0 false
-MayBeNamed core r _ = Unit {0}
+MayBeNamed core r (Through v) = Unit {0}
+MayBeNamed core r (Temporary of n) = IsSmall core of
 
 abbrev pub MayBeGiven : Core → (r : ℕ) → Given → Type 0
+MayBeGiven core r (ByValue kind t) = Unit {0}
+MayBeGiven core r (ByReference t) = Unit {0}
 MayBeGiven core r (ByPlace path) = MayBeNamed core r path.root
 MayBeGiven core r (ByCopy of path) = MayBeNamed core r path.root
-MayBeGiven core r _ = Unit {0}
 
 abbrev pub MayReceive : Core → (r : ℕ) → Receiver → Type 0
+MayReceive core r Nowhere = Unit {0}
+MayReceive core r (ToTemporary t) = Unit {0}
 MayReceive core r (Place of to) = MayBeNamed core r to.root
-MayReceive core r _ = Unit {0}
 
 abbrev pub MayAct : Core → (r : ℕ) → Action → Type 0
+MayAct core r (Constant to n) = Unit {0}
 MayAct core r (Load to kind from) = MayBeNamed core r from.root
 MayAct core r (Store to kind from) = MayBeNamed core r to.root
 MayAct core r (Copy of to from) = MayBeNamed core r to.root × MayBeNamed core r from.root
 MayAct core r (Look at) = MayBeNamed core r at.root
-MayAct core r _ = Unit {0}
+MayAct core r (BeginWith v) = Unit {0}
+MayAct core r (Pick to text index) = Unit {0}
+MayAct core r (Compute c) = Unit {0}
+MayAct core r (Write w) = Unit {0}
+MayAct core r (WriteText text width) = Unit {0}
 
 abbrev pub NamesFit : Core → (r : ℕ) → Instruction → Type 0
 NamesFit core r (Act a landing) = MayAct core r a
 NamesFit core r (Call id call) = All (MayBeGiven core r) call.given × MayReceive core r call.receiver
-NamesFit core r _ = Unit {0}
+NamesFit core r (Jump block) = Unit {0}
+NamesFit core r (When t block) = Unit {0}
+NamesFit core r (Unless t block) = Unit {0}
+NamesFit core r (Switch t arms) = Unit {0}
+NamesFit core r (Dispatch t block) = Unit {0}
+NamesFit core r (MakeDue f) = Unit {0}
+NamesFit core r (Stop t) = Unit {0}
+NamesFit core r Return = Unit {0}
 
 -- no routine has a result of a type whose values are not small
 abbrev pub AreSmallResults : Core → Type 0

@@ -6,6 +6,7 @@ use Rattle.op_compute.specs.Meaning.{number_of_error}
 use Rattle.op_compute.specs.declared.bank.RuntimeError.{RuntimeError}
 use Rattle.op_constants.specs.Arranged.{IsSmall}
 use Rattle.op_constants.specs.Literals.{block_literals, literals_of}
+use Rattle.op_constants.specs.Texts.{is_among}
 use Rattle.op_constants.specs.Offsets.{size_in}
 use Rattle.op_core.specs.declared.ids.TypeId.{TypeId}
 use Rattle.op_core.specs.declared.program.Core.{Core}
@@ -21,19 +22,19 @@ use Rattle.op_low.specs.declared.code.Low.{Low}
 use Rattle.op_meaning.specs.Shapes.{composite, no_type, shape_of, type_of_local, variables_of}
 use Rattle.op_mir.specs.Machine.{Code}
 use Rattle.op_mir.specs.View.{view_of}
-use Rattle.op_mir.specs.declared.action.Action.TheVariants.{Load, Store, Copy, Look}
+use Rattle.op_mir.specs.declared.action.Action.TheVariants.{Constant, Load, Store, Copy, Look, BeginWith, Pick, Compute, Write, WriteText}
 use Rattle.op_mir.specs.declared.action.Action.{Action}
 use Rattle.op_mir.specs.declared.code.Block.{Block}
 use Rattle.op_mir.specs.declared.code.Mir.{Mir}
 use Rattle.op_mir.specs.declared.code.Routine.{Routine}
 use Rattle.op_mir.specs.declared.ids.LocalId.{LocalId}
-use Rattle.op_mir.specs.declared.instruction.Given.TheVariants.{ByPlace, ByCopy}
+use Rattle.op_mir.specs.declared.instruction.Given.TheVariants.{ByValue, ByReference, ByPlace, ByCopy}
 use Rattle.op_mir.specs.declared.instruction.Given.{Given}
-use Rattle.op_mir.specs.declared.instruction.Instruction.TheVariants.{Act, Call}
+use Rattle.op_mir.specs.declared.instruction.Instruction.TheVariants.{Act, Call, Jump, When, Unless, Switch, Dispatch, MakeDue, Stop, Return}
 use Rattle.op_mir.specs.declared.instruction.Instruction.{Instruction}
-use Rattle.op_mir.specs.declared.instruction.Receiver.TheVariants.{Place}
+use Rattle.op_mir.specs.declared.instruction.Receiver.TheVariants.{Nowhere, Temporary as ToTemporary, Place}
 use Rattle.op_mir.specs.declared.instruction.Receiver.{Receiver}
-use Rattle.op_mir.specs.declared.path.Root.TheVariants.{Local, Temporary}
+use Rattle.op_mir.specs.declared.path.Root.TheVariants.{Global, Local, Through, Temporary}
 use Rattle.op_mir.specs.declared.path.Root.{Root}
 use Rattle.op_rt_text.specs.Names.{register}
 use Rattle.op_agreement.specs.Coding.{front_of}
@@ -63,15 +64,17 @@ due_address g = g.placement.address (due_word g.core)
 
 -- what has an address in the locals of a routine begins so far behind the first of them
 abbrev pub StoredAt : Core → (r : ℕ) → Frame → Root → ℕ → Type 0
+StoredAt core r frame (Global v) offset = ⊥
 StoredAt core r frame (Local v) offset = IsVariable core r v.0 false × (home_at frame.homes v ≡ Stored offset)
+StoredAt core r frame (Through v) offset = ⊥
 StoredAt core r frame (Temporary of n) offset =
     (list_any (is_one_root (Temporary of n)) frame.roots ≡ true) × (offset_of core (Temporary of n) frame.temporaries frame.roots ≡ offset)
-StoredAt core r frame _ offset = ⊥
 
 abbrev pub type_stored : Core → (r : ℕ) → Root → TypeId
+type_stored core r (Global v) = no_type
 type_stored core r (Local v) = type_of_local core r v.0
+type_stored core r (Through v) = no_type
 type_stored core r (Temporary of n) = of
-type_stored core r _ = no_type
 
 -- two stretches of bytes have none in common
 abbrev pub Apart : (a size b other : ℕ) → Type 0
@@ -104,38 +107,56 @@ pub record FrameFits (core : Core) (r : ℕ) (x : Routine) (frame : Frame) : Typ
 
 -- where a path begins
 abbrev pub IsRooted : Core → (r : ℕ) → Frame → Root → Type 0
+IsRooted core r frame (Global v) = Unit {0}
+IsRooted core r frame (Local v) = Unit {0}
+IsRooted core r frame (Through v) = Unit {0}
 IsRooted core r frame (Temporary of n) = list_any (is_one_root (Temporary of n)) frame.roots ≡ true
-IsRooted core r frame _ = Unit {0}
 
 -- a variable that is given by place stands in the locals
 abbrev pub IsPlaced : Core → (r : ℕ) → Frame → Root → Type 0
+IsPlaced core r frame (Global v) = IsRooted core r frame (Global v)
 IsPlaced core r frame (Local v) = (offset : ℕ) × (home_at frame.homes v ≡ Stored offset)
-IsPlaced core r frame root = IsRooted core r frame root
+IsPlaced core r frame (Through v) = IsRooted core r frame (Through v)
+IsPlaced core r frame (Temporary of n) = IsRooted core r frame (Temporary of n)
 
 abbrev pub HasGiven : Core → (r : ℕ) → Frame → Given → Type 0
+HasGiven core r frame (ByValue kind t) = Unit {0}
+HasGiven core r frame (ByReference t) = Unit {0}
 HasGiven core r frame (ByPlace path) = IsPlaced core r frame path.root
 HasGiven core r frame (ByCopy of path) = IsRooted core r frame path.root
-HasGiven core r frame _ = Unit {0}
 
 abbrev pub HaveGiven : Core → (r : ℕ) → Frame → List Given → Type 0
 HaveGiven core r frame [] = Unit {0}
 HaveGiven core r frame (g ∷ gs) = HasGiven core r frame g × HaveGiven core r frame gs
 
 abbrev pub HasReceiver : Core → (r : ℕ) → Frame → Receiver → Type 0
+HasReceiver core r frame Nowhere = Unit {0}
+HasReceiver core r frame (ToTemporary t) = Unit {0}
 HasReceiver core r frame (Place of to) = IsRooted core r frame to.root
-HasReceiver core r frame _ = Unit {0}
 
 abbrev pub HasRoots : Core → (r : ℕ) → Frame → Action → Type 0
+HasRoots core r frame (Constant to n) = Unit {0}
 HasRoots core r frame (Load to kind from) = IsRooted core r frame from.root
 HasRoots core r frame (Store to kind from) = IsRooted core r frame to.root
 HasRoots core r frame (Copy of to from) = IsRooted core r frame to.root × IsRooted core r frame from.root
 HasRoots core r frame (Look at) = IsRooted core r frame at.root
-HasRoots core r frame _ = Unit {0}
+HasRoots core r frame (BeginWith v) = Unit {0}
+HasRoots core r frame (Pick to text index) = Unit {0}
+HasRoots core r frame (Compute c) = Unit {0}
+HasRoots core r frame (Write w) = Unit {0}
+HasRoots core r frame (WriteText text width) = Unit {0}
 
 abbrev pub HasHomes : Core → (r : ℕ) → Frame → Instruction → Type 0
 HasHomes core r frame (Act a landing) = HasRoots core r frame a
 HasHomes core r frame (Call id call) = HaveGiven core r frame call.given × HasReceiver core r frame call.receiver
-HasHomes core r frame _ = Unit {0}
+HasHomes core r frame (Jump block) = Unit {0}
+HasHomes core r frame (When t block) = Unit {0}
+HasHomes core r frame (Unless t block) = Unit {0}
+HasHomes core r frame (Switch t arms) = Unit {0}
+HasHomes core r frame (Dispatch t block) = Unit {0}
+HasHomes core r frame (MakeDue f) = Unit {0}
+HasHomes core r frame (Stop t) = Unit {0}
+HasHomes core r frame Return = Unit {0}
 
 abbrev pub HaveHomes : Core → (r : ℕ) → Frame → List Instruction → Type 0
 HaveHomes core r frame [] = Unit {0}
@@ -143,16 +164,15 @@ HaveHomes core r frame (i ∷ is) = HasHomes core r frame i × HaveHomes core r 
 
 -- ---- the low code of a routine
 
--- literals that have the numbers from one on
-abbrev pub AreLiterals : List (List ℕ) → ℕ → List (List ℕ) → Type 0
-AreLiterals all id [] = Unit {0}
-AreLiterals all id (text ∷ texts) = (slice_get all id ≡ Some text) × AreLiterals all (id + 1) texts
+-- each of the texts is among all literals
+abbrev pub AreLiterals : (all texts : List (List ℕ)) → Type 0
+AreLiterals all [] = Unit {0}
+AreLiterals all (text ∷ texts) = (is_among text all ≡ true) × AreLiterals all texts
 
 -- a block of managed code is this one of low code
 pub record BlockStands (g : Setting) (r : ℕ) (frame : Frame) (k : ℕ) (block : Block) : Type 0 where
-  pub id : ℕ
-  pub literals : AreLiterals (literals_of g.core g.mir) id (block_literals g.core r block)
-  pub code : block_of g.low (runtime + r) k ≡ front_of g.core frame r k ++ code_of g.core g.mir frame r id block.code
+  pub literals : AreLiterals (literals_of g.core g.mir) (block_literals g.core r block)
+  pub code : block_of g.low (runtime + r) k ≡ front_of g.core frame r k ++ code_of g.core g.mir frame (literals_of g.core g.mir) block.code
 
 pub record IsExpanded (g : Setting) (r : ℕ) (x : Routine) (frame : Frame) : Type 0 where
   pub exists : runtime + r < length g.low.routines

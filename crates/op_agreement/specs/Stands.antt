@@ -39,10 +39,9 @@ use Rattle.op_agreement.specs.Typed.{IsVariable, AreFine, IsTypedReceiver}
 -- what is left of a block, in managed and in low code
 pub record Position (g : Setting) (f : Floor) (rest : List Instr) (now : List LowInstruction) : Type 0 where
   pub is : List Instruction
-  pub id : ℕ
   pub above : rest ≡ map (view_instruction g.core f.number) is
-  pub below : now ≡ code_of g.core g.mir f.frame f.number id is
-  pub literals : AreLiterals (literals_of g.core g.mir) id (flat_map (instruction_literals g.core f.number) is)
+  pub below : now ≡ code_of g.core g.mir f.frame (literals_of g.core g.mir) is
+  pub literals : AreLiterals (literals_of g.core g.mir) (flat_map (instruction_literals g.core f.number) is)
   pub fine : AreFine g.core g.mir f.number f.routine is
   pub homes : HaveHomes g.core f.number f.frame is
 

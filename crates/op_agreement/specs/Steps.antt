@@ -1,9 +1,10 @@
 -- Steps of low code that come along with one of managed code.
-use Rattle.std.specs.Prelude.{◌≡◌, ◌≤◌, ℕ, ◌*◌}
-use Rattle.op_low.specs.Machine.{Event, cost, low_machine}
+use Rattle.std.specs.Prelude.{◌≡◌, ◌≤◌, ℕ, ◌*◌, Bool, true, false}
+use Rattle.std.specs.List.{list_any}
+use Rattle.op_low.specs.Machine.{Event, Taken, Written, cost, low_machine}
 use Rattle.op_low.specs.State.{State, Ending, Running, Ended, Bad}
 use Rattle.op_mir.specs.Machine.{MirState, mir_cost, mir_step}
-use Rattle.op_simulation.specs.System.{System, run, spent}
+use Rattle.op_simulation.specs.System.{System, run, spent, trace}
 use Rattle.op_agreement.specs.Settings.{Setting, managed}
 use Rattle.op_agreement.specs.Stands.{Stands}
 
@@ -17,12 +18,18 @@ cost_going g l Bad = 0
 abbrev pub counted : Setting → System Event
 counted g = record (low_machine g.low g.placement) { cost = λ l. cost_going g l l.ending }
 
--- so many steps at least lead from one state of low code to another, at so much at most
+-- the input was read, also where nothing was left of it
+abbrev pub is_read : Event → Bool
+is_read (Written output bytes) = false
+is_read (Taken bytes) = true
+
+-- so many steps at least lead from one state of low code to another, at so much at most, and do not read the input
 pub record Goes (g : Setting) (least most : ℕ) (l k : State) : Type 0 where
   pub steps : ℕ
   pub enough : least ≤ steps
   pub within : spent (counted g) steps l ≤ most
   pub ends : run (low_machine g.low g.placement) steps l ≡ k
+  pub unread : list_any is_read (trace (low_machine g.low g.placement) steps l) ≡ false
 
 -- what low code costs at most for a cost of one of managed code
 abbrev pub most_for_one : ℕ

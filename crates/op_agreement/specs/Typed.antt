@@ -15,7 +15,7 @@ use Rattle.op_core.specs.declared.routine.Variable.{Variable}
 use Rattle.op_core.specs.declared.types.IntegerKind.{IntegerKind}
 use Rattle.op_expand.specs.Calls.{has_closing}
 use Rattle.op_expand.specs.Frames.{parameters_of}
-use Rattle.op_meaning.specs.Actions.{Action, constant, load, store, copy, look, begin_with, pick, check, neighbour, write_text}
+use Rattle.op_meaning.specs.Actions.{Action, constant, load, store, copy, look, begin_with, pick, arithmetic, compare, negate, complement, invert, absolute, odd, upper, low_bits, check, neighbour, single, span, combine, contains, check_set, write_number, write_truth, write_char, write_text}
 use Rattle.op_meaning.specs.Expressions.{result_of}
 use Rattle.op_meaning.specs.Items.{Given, by_value, by_reference, by_place, by_copy, Receiver, nowhere, to_temp, to_place}
 use Rattle.op_meaning.specs.Numbers.{fits_word}
@@ -82,10 +82,26 @@ IsTypedAction core r (copy of to from) = (shape_of core of ≡ composite) × Pat
 IsTypedAction core r (look at) = (of : TypeId) × PathTo core r at of
 IsTypedAction core r (begin_with v of value) = IsVariable core r v false × (type_of_local core r v ≡ of) × IsSmall core of × FirstFits core of value
 IsTypedAction core r (pick to text index) = (length text < 2 ^ 31) × AreBytes text
+IsTypedAction core r (arithmetic o checked to a b) = Unit {0}
+IsTypedAction core r (compare o to a b) = Unit {0}
+IsTypedAction core r (negate checked to a) = Unit {0}
+IsTypedAction core r (complement to a) = Unit {0}
+IsTypedAction core r (invert to a) = Unit {0}
+IsTypedAction core r (absolute checked to a) = Unit {0}
+IsTypedAction core r (odd to a) = Unit {0}
+IsTypedAction core r (upper to a) = Unit {0}
+IsTypedAction core r (low_bits kind to a) = Unit {0}
 IsTypedAction core r (check low high to a) = (fits_word low ≡ true) × (fits_word high ≡ true)
 IsTypedAction core r (neighbour distance low high to a) = FitsSigned w32 distance × (fits_word low ≡ true) × (fits_word high ≡ true)
+IsTypedAction core r (single to a) = Unit {0}
+IsTypedAction core r (span to a b) = Unit {0}
+IsTypedAction core r (combine o to a b) = Unit {0}
+IsTypedAction core r (contains to a b) = Unit {0}
+IsTypedAction core r (check_set all to a) = Unit {0}
+IsTypedAction core r (write_number from width) = Unit {0}
+IsTypedAction core r (write_truth from width) = Unit {0}
+IsTypedAction core r (write_char from width) = Unit {0}
 IsTypedAction core r (write_text text width) = (length text < 2 ^ 31) × AreBytes text
-IsTypedAction core r _ = Unit {0}
 
 -- ---- calls
 
@@ -149,9 +165,16 @@ IsFine core mir r x Return = Unit {0}
 
 -- the code never goes on behind it
 abbrev pub Leaves : Instruction → Type 0
+Leaves (Act a landing) = ⊥
+Leaves (Call id call) = ⊥
 Leaves (Jump block) = Unit {0}
+Leaves (When t block) = ⊥
+Leaves (Unless t block) = ⊥
+Leaves (Switch t arms) = ⊥
+Leaves (Dispatch t block) = ⊥
+Leaves (MakeDue f) = ⊥
+Leaves (Stop t) = ⊥
 Leaves Return = Unit {0}
-Leaves _ = ⊥
 
 -- ---- what an activation is charged for
 
@@ -162,15 +185,29 @@ labels_in (a ∷ arms) = length a.labels + labels_in arms
 
 -- the program itself, which is charged nothing, calls without arguments and results, makes finalization parts due, and returns
 abbrev pub IsLight : Instruction → Type 0
+IsLight (Act a landing) = ⊥
 IsLight (Call id call) = (call.given ≡ []) × (call.receiver ≡ Nowhere)
+IsLight (Jump block) = ⊥
+IsLight (When t block) = ⊥
+IsLight (Unless t block) = ⊥
+IsLight (Switch t arms) = ⊥
+IsLight (Dispatch t block) = ⊥
 IsLight (MakeDue f) = Unit {0}
+IsLight (Stop t) = ⊥
 IsLight Return = Unit {0}
-IsLight _ = ⊥
 
 -- any other routine is charged for each label
 abbrev pub IsCharged : Routine → Instruction → Type 0
+IsCharged x (Act a landing) = Unit {0}
+IsCharged x (Call id call) = Unit {0}
+IsCharged x (Jump block) = Unit {0}
+IsCharged x (When t block) = Unit {0}
+IsCharged x (Unless t block) = Unit {0}
 IsCharged x (Switch t arms) = labels_in arms ≤ x.charge
-IsCharged x _ = Unit {0}
+IsCharged x (Dispatch t block) = Unit {0}
+IsCharged x (MakeDue f) = Unit {0}
+IsCharged x (Stop t) = Unit {0}
+IsCharged x Return = Unit {0}
 
 pub record IsPaid (mir : Mir) (r : ℕ) (x : Routine) (i : Instruction) : Type 0 where
   pub itself : r ≡ length mir.routines → IsLight i

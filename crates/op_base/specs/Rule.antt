@@ -46,7 +46,6 @@ feature_texts =
     (34, codes "not in this profile: raise at") ∷
     (35, codes "not in this profile: fraction width") ∷
     (36, codes "not in this profile: interface property") ∷
-    (38, codes "not in this profile: not compiled yet") ∷
     (39, codes "not in this profile: unit or halt") ∷
     (40, codes "not in this profile: string at run time") ∷
     (41, codes "not in this profile: dynamic or open array, for in") ∷

@@ -162,7 +162,6 @@ fn feature_text(feature: u8) -> Option<&'static str>
         34 => Some("not in this profile: raise at"),
         35 => Some("not in this profile: fraction width"),
         36 => Some("not in this profile: interface property"),
-        38 => Some("not in this profile: not compiled yet"),
         39 => Some("not in this profile: unit or halt"),
         40 => Some("not in this profile: string at run time"),
         41 => Some("not in this profile: dynamic or open array, for in"),

@@ -6,7 +6,7 @@ ghost use Rattle.op_mir.specs.declared.code.Mir.{Mir};
 ghost use Rattle.op_link.specs.Memory.{are_in_range};
 
 use op_base::NoMemory;
-use op_constants::layout;
+use op_constants::literals_of;
 use op_core::Core;
 use op_expand::expand;
 use op_image::buildable;
@@ -22,7 +22,7 @@ use std::alloc::Global;
 pub enum BuildError {
     /// Code, constants and initial globals would take more than 67,108,864 bytes.
     Limit,
-    /// The low code of the program names what does not exist.
+    /// The low code of the program names what does not exist, or its globals take too much room: of what comes from a sound program none does.
     Unbuildable,
     NoMemory,
 }
@@ -55,9 +55,10 @@ fn low_code_of(
     requires settings { IsTrue (are_in_range settings.now) }
     ensures { IfOk result (λ code. IsLowCode core mir settings.now code.low code.layout) }
 {
-    let layout = layout(alloc, &core, &mir)?;
-    let expanded = expand(alloc, &core, mir, 1024 * settings.stack)?;
+    let literals = literals_of(alloc, &core, &mir)?;
+    let expanded = expand(alloc, &core, mir, 1024 * settings.stack, &literals)?;
     let low = optimize(alloc, expanded)?;
+    let layout = literals.layout(alloc)?;
     Ok(LowCode { low, layout })
 }
 

@@ -2,11 +2,11 @@
 use Rattle.std.proofs.Common.{◌≡◌, ℕ, suc, ◌<◌, ◌≤◌, ◌+◌, List, [], ◌∷◌, map, length, drop, drop-cons, add-one, get_or, Option, Result, Ok, Err, IfOk, refl, sym, ap, subst, ◌∙◌}
 use Rattle.std.proofs.lemmas.List.{at_drop_all}
 use Rattle.std.specs.Option.{option_map}
+use Rattle.op_base.proofs.Tests.{map_ok}
 use Rattle.op_core.specs.Faults.{kept}
 use Rattle.op_core.specs.declared.first_refusal.FirstRefusal.{FirstRefusal}
 use Rattle.op_judgement.specs.Judgement.{Judgement, Reports, both_typed, checked, followed, of_two, through, with_part}
 use Rattle.op_check_expr.specs.Parts.{Behind, OfOk, standing}
-use Rattle.op_types.proofs.Folding.{map_ok}
 
 pub reports_followed : {A B : Type 0} (c : Judgement B) (f : Option B → Judgement A) (old mid new : FirstRefusal) (b : Option B) (given : Option A) → Reports c old mid b → Reports (f b) mid new given → Reports (followed c f) old new given
 reports_followed c f old mid new b given h k =

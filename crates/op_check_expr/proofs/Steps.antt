@@ -1,7 +1,8 @@
 -- The types along the steps of a typed tree, and whether they lead to a place.
-use Rattle.std.proofs.Common.{◌≡◌, ℕ, suc, ◌<◌, ◌+◌, Bool, List, [], ◌∷◌, ◌++◌, length, drop, drop-cons, add-one, get_or, refl, sym, ap, ◌∙◌, Option}
-use Rattle.op_core.proofs.Nodes.{list_nodes}
-use Rattle.op_core.specs.Expression.{Expression as Tree, expr_of, expression, root_of, action_of, steps}
+use Rattle.std.proofs.Common.{◌≡◌, ℕ, ◌<◌, ◌+◌, Bool, List, [], ◌∷◌, ◌++◌, length, drop, get_or, refl, sym, ap, ◌∙◌, Option}
+use Rattle.std.proofs.lemmas.List.{nil_from_length}
+use Rattle.op_core.proofs.Nodes.{list_nodes, next_step}
+use Rattle.op_core.specs.Expression.{Expression as Tree, expr_of, expression, root_of, action_of}
 use Rattle.op_core.specs.Nodes.{steps_of}
 use Rattle.op_core.specs.Sizes.{type_at}
 use Rattle.op_core.specs.Typing as typing
@@ -12,7 +13,6 @@ use Rattle.op_core.specs.declared.program.Core.{Core}
 use Rattle.op_core.specs.declared.types.CoreType.{CoreType}
 use Rattle.op_check_expr.specs.Places as places
 use Rattle.op_check_expr.specs.Places.{leads}
-use Rattle.op_types.proofs.Folding.{nothing}
 
 last_after : (of : TypeId) (front : List Step) (x : Step) → typing.type_after of (steps_of (front ++ x ∷ [])) ≡ x.of
 last_after of [] x = refl
@@ -27,10 +27,7 @@ type_behind e front x is =
 pub type_alone : (e : CoreExpr) → length (out-CoreExpr e).steps.items ≡ 0 → typing.type_of (expr_of e) ≡ (out-CoreExpr e).of
 type_alone e is =
     ap typing.type_of (list_nodes.expr_says e)
-    ∙ ap (λ xs. typing.type_after (out-CoreExpr e).of (steps_of xs)) (nothing (out-CoreExpr e).steps.items is)
-
-pub next_step : (list : List Step) (k : ℕ) (x : Step) → k < length list → x ≡ get_or list k x → steps_of (drop k list) ≡ steps (action_of x.action) x.of (steps_of (drop (k + 1) list))
-next_step list k x h e = rw add-one (ap steps_of (drop-cons list k x h) ∙ ap (λ y. steps (action_of y.action) y.of (steps_of (drop (suc k) list))) (sym e))
+    ∙ ap (λ xs. typing.type_after (out-CoreExpr e).of (steps_of xs)) (nil_from_length (out-CoreExpr e).steps.items is)
 
 pub leads_whole : (chars : Bool) (core : Core) (so_far : Bool) (e : CoreExpr) (items : List Step) → items ≡ (out-CoreExpr e).steps.items → typing.is_place_after chars core (out-CoreExpr e).of (steps_of items) so_far ≡ leads chars core so_far (expr_of e)
 leads_whole chars core so_far e items is =

@@ -4,10 +4,11 @@ use Rattle.std.proofs.Math.Facts.{ltb_yes, yes_leb}
 use Rattle.std.proofs.Math.Nat.{le_of_lt}
 use Rattle.std.proofs.lemmas.Bool.{and_from, and_parts, false≢true, or_cases, or_right}
 use Rattle.std.proofs.lemmas.Int.{by_lt_z}
+use Rattle.std.proofs.lemmas.Option.{none-some}
 use Rattle.std.specs.Int.Signed.{clash_ℤ, le_z_yes, lt_z, le_z, ≤ℤ_refl, <ℤ-≤ℤ_trans}
 use Rattle.std.specs.Prelude.{int_le}
 use Rattle.op_base.specs.declared.place.Place.{Place}
-use Rattle.op_core.proofs.Agreeing.{either_by, holds_none, lists_one, none_is, some_is}
+use Rattle.op_core.proofs.Agreeing.{either_by, holds_none, lists_one, some_is}
 use Rattle.op_core.specs.Relations.{Agrees, Either, Entry, Holds, Never, Only, Through, Where}
 use Rattle.op_core.specs.declared.statement.Label.{Label}
 use Rattle.op_judgement.proofs.Told.{has_text}
@@ -87,9 +88,9 @@ first_met front (s ∷ ss) = holds_if (is_repeated front s) (met front s, is_met
 
 once_law : {A : Type 0} (a : Option A) (o : Option Place) (R : Place → Type 0) → Holds o R → Agrees (once a o) (Where ((place : Place) → R place → ⊥) (Entry a)) (Through R (λ place. Only (fault LabelTwice place)))
 once_law a None R k =
-    (λ x. (λ e. (λ p r. none_is ((k p).1 r), e), λ s. s.1), λ r. (λ i. elim i [ ], λ s. absurd (none_is ((k s.0).1 s.1))))
+    (λ x. (λ e. (λ p r. none-some _ ((k p).1 r), e), λ s. s.1), λ r. (λ i. elim i [ ], λ s. absurd (none-some _ ((k s.0).1 s.1))))
 once_law a (Some p) R k = (
-  λ x. (λ e. absurd (none_is e), λ s. absurd (s.0 p ((k p).0 refl))),
+  λ x. (λ e. absurd (none-some _ e), λ s. absurd (s.0 p ((k p).0 refl))),
   λ r. (λ i. (p, (k p).0 refl, (lists_one (fault LabelTwice p) r).0 i), λ s. (lists_one (fault LabelTwice p) r).1 (subst (λ q. fault LabelTwice q ≡ r) (sym (some_is ((k s.0).1 s.1))) s.2)),
 )
 

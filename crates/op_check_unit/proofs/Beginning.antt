@@ -1,6 +1,6 @@
 -- First values: lists of them, and expressions in brackets.
 use Rattle.std.proofs.Common.{◌≡◌, ℕ, zero, suc, ◌<◌, ◌≤◌, true, false, List, [], ◌∷◌, Option, Some, None, Result, Ok, Err, IfOk, length, slice_get, get_or, nat_lt, if◌then◌else◌, refl, sym, ap, subst, ◌∙◌, arith}
-use Rattle.std.proofs.lemmas.Bool.{lt-ltb}
+use Rattle.std.proofs.lemmas.Bool.{le-ltb, lt-ltb}
 use Rattle.std.specs.Option.{option_map}
 use Rattle.op_base.specs.declared.memory_error.NoMemory.{NoMemory}
 use Rattle.op_base.specs.declared.place.Place.{Place}
@@ -103,13 +103,10 @@ some_at [] k x h e = absurd (omega (arith, h))
 some_at (i ∷ is) zero x h e = ap (λ x. Some (start_of_initial (initial_of x))) e
 some_at (i ∷ is) (suc k) x h e = some_at is k x (omega (arith, h)) e
 
-not_less : (a b : ℕ) → b ≤ a → nat_lt a b ≡ false
-not_less a b h = grind (arith, h)
-
 pub few : (bracket : Place) (count : ℕ) (is : List Initializer) → length is < count → Some bracket ≡ wrong_count bracket count (starts (initials_of is))
 few bracket count is h =
     sym (ap (λ b. if b then Some bracket else slice_get (starts (initials_of is)) count) (ap (λ n. nat_lt n count) (count_of is) ∙ lt-ltb (length is) count h))
 
 pub enough : (bracket : Place) (count : ℕ) (is : List Initializer) (r : Option Place) → count ≤ length is → r ≡ slice_get (starts (initials_of is)) count → r ≡ wrong_count bracket count (starts (initials_of is))
 enough bracket count is r h e =
-    e ∙ sym (ap (λ b. if b then Some bracket else slice_get (starts (initials_of is)) count) (ap (λ n. nat_lt n count) (count_of is) ∙ not_less (length is) count h))
+    e ∙ sym (ap (λ b. if b then Some bracket else slice_get (starts (initials_of is)) count) (ap (λ n. nat_lt n count) (count_of is) ∙ le-ltb (length is) count h))

@@ -1,5 +1,6 @@
 -- The rules that a program breaks are exactly its faults.
 use Rattle.std.proofs.Common.{◌≡◌, ℕ, ◌+◌, Bool, true, false, if◌then◌else◌, List, [], ◌∷◌, length, nat_eq, slice_get, Option, Some, None, Result, Ok, Err, refl, arith}
+use Rattle.std.proofs.lemmas.Bool.{eqb-true}
 use Rattle.std.proofs.lemmas.Bool.Decides.{nat_tests}
 use Rattle.op_base.specs.declared.rule.Refusal.{Refusal}
 use Rattle.op_check_unit.specs.Checking.{CheckIs}
@@ -33,15 +34,11 @@ interface_law_by k (Some None) None o = lists_none
 interface_law_by k (Some (Some e)) u o = lists_none
 interface_law_by k None u o = lists_none
 
--- of two numbers that are the same
-pub same_number : (j k : ℕ) → nat_eq j k ≡ true → j ≡ k
-same_number j k e = grind (arith, nat_tests, e)
-
 pub other_number : (j k : ℕ) → nat_eq j k ≡ false → j ≡ k → ⊥
 other_number j k e f = grind (arith, nat_tests, e, f)
 
 lists_at : {f : Faults} {P : Refusal → Type 0} (j k : ℕ) (b : Bool) → nat_eq j k ≡ b → Lists f P → Lists (if b then f else none) (Where (j ≡ k) P)
-lists_at j k true e l r = (λ i. (same_number j k e, (l r).0 i), λ s. (l r).1 s.1)
+lists_at j k true e l r = (λ i. (eqb-true j k e, (l r).0 i), λ s. (l r).1 s.1)
 lists_at j k false e l r = (λ i. elim i [ ], λ s. absurd (other_number j k e s.0))
 
 among_law : (order : List (List ℕ)) (fs : List File) (ks : List ℕ) (o : Outline) (k : ℕ) → Lists (faults_among order fs ks o k) (BreaksAmong order fs ks o k)
@@ -76,5 +73,5 @@ program_law fs order = files_law fs order beginning
 -- what the checker answers of it
 pub obeys : (g : Given (Unit {0})) (B : Refusal → Type 0) (r : Result Core CheckError) → Lists g.faults B → CheckIs g r → Obeys B r
 obeys g B (Ok core) h c = none_broken g.faults B h c.1
-obeys g B (Err (Refused r)) h c = first_broken g.faults B r h c
+obeys g B (Err (Refused r)) h c = first_broken g.faults B r h c.0
 obeys g B (Err NoMemory) h c = tt

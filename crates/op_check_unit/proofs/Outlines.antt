@@ -1,8 +1,9 @@
 -- What is exported tells the first rule that an interface part breaks.
 use Rattle.std.proofs.Common.{◌≡◌, ℕ, zero, suc, Bool, true, false, if◌then◌else◌, List, [], ◌∷◌, length, length-set, nat_eq, replicate, slice_get, slice_set, Option, Some, None, Result, Ok, Err, IfOk, refl, sym, ap, ap₂, subst, ◌∙◌, arith}
+use Rattle.std.proofs.lemmas.Bool.{eqb-true}
 use Rattle.std.proofs.lemmas.Option.{slice_get_within}
 use Rattle.op_base.specs.declared.memory_error.NoMemory.{NoMemory}
-use Rattle.op_check_unit.proofs.Law.{other_number, same_number}
+use Rattle.op_check_unit.proofs.Law.{other_number}
 use Rattle.op_check_unit.specs.Interfaces.{interface_order, unit_at}
 use Rattle.op_check_unit.specs.Outlines.{AllTell, Tells, is_blank, outline_of}
 use Rattle.op_check_unit.specs.Programs.{Outline, all_outlined, blank_outline, faults_among, files_mean, in_unit, interface_faults_by, interface_means, outline, outline_faults, outlined, outlined_by, parts_of_program, with_interface, with_units}
@@ -54,7 +55,7 @@ tells_step j k (Some None) (Some u) o x f is there t = one (nat_eq j k) refl
 
     one : (b : Bool) → nat_eq j k ≡ b → (y : Option Export) × (slice_get (slice_set o.exports j (Some (exported u.name g))) k ≡ Some y) × Tells y (both f (if b then g.faults else none))
     one true e =
-        let same = same_number j k e in
+        let same = eqb-true j k e in
         (Some (exported u.name g), subst (λ n. slice_get (slice_set o.exports j (Some (exported u.name g))) n ≡ Some (Some (exported u.name g))) same (set_there o.exports j (Some (exported u.name g)) (slice_get_within o.exports j None is)), told (some_eq (sym is ∙ ap (slice_get o.exports) same ∙ there)))
     one false e = (x, set_apart o.exports j (Some (exported u.name g)) k (λ z. other_number j k e (sym z)) ∙ there, tells_none x f false t)
 tells_step j k (Some None) None o x f is there t = (x, there, tells_none x f (nat_eq j k) t)

@@ -50,7 +50,7 @@ fills bs vs old mid new p b = record {
 pub checks : (g : Given (Unit {0})) (start d : Declarer) (r : Result Core CheckError) → start.sink.kept ≡ None → Declared g start d → Finishes d r → CheckIs g r
 checks g start d (Ok core) s x f =
     (subst (λ h. Fills h.bodies h.first_values h.core core) x.0 f.0, subst (FirstIs g.faults) (sym (ap (λ k. kept k g.faults) s) ∙ sym x.1 ∙ f.1) (first_is g.faults))
-checks g start d (Err (Refused r)) s x f = subst (FirstIs g.faults) (sym (ap (λ k. kept k g.faults) s) ∙ sym x.1 ∙ f) (first_is g.faults)
+checks g start d (Err (Refused r)) s x f = let e = sym (ap (λ k. kept k g.faults) s) ∙ sym x.1 ∙ f in (subst (FirstIs g.faults) e (first_is g.faults), e)
 checks g start d (Err NoMemory) s x f = tt
 
 -- what a declarer comes to

@@ -55,5 +55,5 @@ files_told (program p ∷ fs) order h = parts_told p order fs (outline_faults or
 
 pub program_told : (fs : List File) (order : List (List ℕ)) (r : Result Core CheckError) → CheckIs (program_means fs order) r → IfErr r RefusalHasText
 program_told fs order (Ok core) c = tt
-program_told fs order (Err (Refused r)) c = told_in (program_means fs order).faults (files_told fs order beginning) r c.is_in
+program_told fs order (Err (Refused r)) c = told_in (program_means fs order).faults (files_told fs order beginning) r c.0.is_in
 program_told fs order (Err NoMemory) c = tt

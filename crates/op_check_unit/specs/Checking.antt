@@ -4,7 +4,7 @@ use Rattle.std.specs.Option.{option_map}
 use Rattle.op_check_unit.specs.FirstValues.{begins_with, begun, without_first_values}
 use Rattle.op_check_unit.specs.Steps.{Given, Here, here_of}
 use Rattle.op_check_unit.specs.declared.declarer.Declarer.{Declarer}
-use Rattle.op_core.specs.Faults.{FirstIs}
+use Rattle.op_core.specs.Faults.{FirstIs, kept}
 use Rattle.op_core.specs.Initial.{FirstValue}
 use Rattle.op_core.specs.Statement.{Statements, stmts_of}
 use Rattle.op_core.specs.declared.error.CheckError.{CheckError}
@@ -52,8 +52,8 @@ Finishes d (Ok core) = IsProgram (here_of d) core × (d.sink.kept ≡ None)
 Finishes d (Err (Refused r)) = d.sink.kept ≡ Some r
 Finishes d (Err NoMemory) = Unit {0}
 
--- the typed program, where no rule is broken; else the first one
+-- the typed program, where no rule is broken; else the first one, and of those that stand alike the one that is reported first
 abbrev pub CheckIs : Given (Unit {0}) → Result Core CheckError → Type 0
 CheckIs g (Ok core) = IsProgram g.here core × FirstIs g.faults None
-CheckIs g (Err (Refused r)) = FirstIs g.faults (Some r)
+CheckIs g (Err (Refused r)) = FirstIs g.faults (Some r) × (kept None g.faults ≡ Some r)
 CheckIs g (Err NoMemory) = Unit {0}

@@ -22,7 +22,7 @@ use Rattle.op_core.specs.declared.types.CoreType.TheVariants as type
 use Rattle.op_core.specs.declared.types.Field.{Field}
 use Rattle.op_judgement.specs.Judgement.{Judgement, by_entry, by_test, changed, fine, followed, of_two, refused, through, when}
 use Rattle.op_judgement.specs.declared.rules.LanguageRule.TheVariants.{NoMember, NotAssignable, OutOfRange}
-use Rattle.op_tree.specs.Expression.{Expression, designated, Designator, designator, bracketed, no_selectors}
+use Rattle.op_tree.specs.Expression.{Expression, chain, prefixed, number, nil, set, literal, designated, inherited, Designator, designator, named, string, bracketed, no_selectors, selectors}
 use Rattle.op_tree.specs.Initial.{Initial, value, list, record_, Initials, no_initials, initials, FieldInitials, no_field_initials, field_initials}
 use Rattle.op_types.specs.Assignable.{assignable}
 use Rattle.op_types.specs.ConstantParts.{start_of}
@@ -89,8 +89,14 @@ by_brackets bracket c f _ = c
 
 abbrev mutual
   pub first_expression : Core → List Named → TypeId → Expression → Judgement FirstValue
+  first_expression core names of (chain first rest) = single core names of (chain first rest)
+  first_expression core names of (prefixed o p e) = single core names of (prefixed o p e)
+  first_expression core names of (number n p) = single core names of (number n p)
+  first_expression core names of (nil p) = single core names of (nil p)
+  first_expression core names of (set p es) = single core names of (set p es)
+  first_expression core names of (literal text p s) = single core names of (literal text p s)
   first_expression core names of (designated d) = first_designated core names of d
-  first_expression core names of e = single core names of e
+  first_expression core names of (inherited p d) = single core names of (inherited p d)
 
   pub first_designated : Core → List Named → TypeId → Designator → Judgement FirstValue
   first_designated core names of (designator (bracketed p e) no_selectors) =
@@ -99,8 +105,17 @@ abbrev mutual
   first_designated core names of d = single core names of (designated d)
 
 abbrev pub is_bracketed : Expression → Bool
+is_bracketed (chain first rest) = false
+is_bracketed (prefixed o p e) = false
+is_bracketed (number n p) = false
+is_bracketed (nil p) = false
+is_bracketed (set p es) = false
+is_bracketed (literal text p s) = false
+is_bracketed (designated (designator (named n) ss)) = false
+is_bracketed (designated (designator (string p) ss)) = false
 is_bracketed (designated (designator (bracketed p e) no_selectors)) = true
-is_bracketed _ = false
+is_bracketed (designated (designator (bracketed p e) (selectors s ss))) = false
+is_bracketed (inherited p d) = false
 
 -- ---- first values
 

@@ -8,7 +8,7 @@ use Rattle.op_check_unit.specs.Naming.{declared_within}
 use Rattle.op_check_unit.specs.Steps.{Here}
 use Rattle.op_core.specs.Sizes.{extent_of, range_of, type_at, values_of}
 use Rattle.op_core.specs.declared.constant.Const.{Const}
-use Rattle.op_core.specs.declared.constant.Const.TheVariants.{Ordinal, Nil}
+use Rattle.op_core.specs.declared.constant.Const.TheVariants.{Ordinal, Text, Set, Nil}
 use Rattle.op_core.specs.declared.ids.TypeId.{TypeId}
 use Rattle.op_core.specs.declared.program.Core.{Core}
 use Rattle.op_core.specs.declared.types.CoreType.{CoreType}
@@ -109,8 +109,10 @@ needed core names e = when (is_constant core names e) (constant core names e) (n
 
 -- the feature that a constant shows: `nil` is left out
 abbrev pub feature_of_constant : Const → Option Feature
+feature_of_constant (Ordinal n) = None
+feature_of_constant (Text bytes) = None
+feature_of_constant (Set members) = None
 feature_of_constant Nil = Some DynamicArrays
-feature_of_constant v = None
 
 -- a constant that begins at a place, unless it shows a feature that is left out
 abbrev pub built : Place → Constant → Judgement Constant

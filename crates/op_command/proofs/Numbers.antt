@@ -1,25 +1,14 @@
 -- The numbers of the command line.
-use Rattle.std.proofs.Common.{◌≡◌, ℕ, ◌<◌, ◌≤◌, ◌^◌, Bool, true, false, not, ◌&&◌, if◌then◌else◌, nat_eq, nat_lt, nat_le, Option, Some, None, List, [], ◌∷◌, length, cond, drop, refl, ap, sym, ◌∙◌, subst, arith, codes}
-use Rattle.std.proofs.lemmas.Bool.Decides.{nat_tests}
+use Rattle.std.proofs.Common.{◌≡◌, ℕ, ◌<◌, ◌≤◌, ◌^◌, Bool, true, false, ◌&&◌, if◌then◌else◌, nat_eq, nat_lt, nat_le, Option, Some, None, List, [], ◌∷◌, length, cond, drop, refl, ap, sym, ◌∙◌, subst, arith, codes}
+use Rattle.std.proofs.lemmas.Bool.{and_from, and_parts, le-leb, leb-true, lt-ltb, ltb-true, not-true}
 use Rattle.std.specs.Char.{digit_value}
 use Rattle.std.specs.List.{starts_with}
 use Rattle.std.specs.Str.Parse.{AllDigits, IsNumeral, digits_value, without_leading_plus}
+use Rattle.op_base.proofs.Tests.{eqb-turned}
 use Rattle.op_command.specs.Command.{IsNumber, Range}
 use Rattle.op_command.specs.Reading.{are_digits, is_in, number_in}
 
 -- ---- tests
-
-pub both : (a b : Bool) → (a && b) ≡ true → (a ≡ true) × (b ≡ true)
-both true b h = (refl, h)
-both false b h = absurd cc
-
-pub not_true : (b : Bool) → not b ≡ true → b ≡ false
-not_true true is = absurd cc
-not_true false is = refl
-
-pub both_are : (a b : Bool) → a ≡ true → b ≡ true → (a && b) ≡ true
-both_are true b p q = q
-both_are false b p q = absurd cc
 
 pub if_some : {A : Type 0} (test : Bool) (value given : A) → (if test then Some value else None) ≡ Some given → (test ≡ true) × (value ≡ given)
 if_some true value given is = (refl, cc)
@@ -33,30 +22,18 @@ pub is_none_of : {A : Type 0} (o : Option A) → ((a : A) → o ≡ Some a → �
 is_none_of None never = refl
 is_none_of (Some a) never = absurd (never a refl)
 
-below : (a b : ℕ) → nat_lt a b ≡ true → a < b
-below a b is = grind (arith, nat_tests)
-
-test_below : (a b : ℕ) → a < b → nat_lt a b ≡ true
-test_below a b is = grind (arith, nat_tests)
-
-up_to : (a b : ℕ) → nat_le a b ≡ true → a ≤ b
-up_to a b is = grind (arith, nat_tests)
-
-test_up_to : (a b : ℕ) → a ≤ b → nat_le a b ≡ true
-test_up_to a b is = grind (arith, nat_tests)
-
 -- ---- digits
 
 digits_of : (ds : List ℕ) → are_digits ds ≡ true → AllDigits 10 ds
 digits_of [] is = tt
 digits_of (d ∷ ds) is =
-    let p = both (nat_lt (digit_value d) 10) (are_digits ds) is in
-    (below (digit_value d) 10 p.0, digits_of ds p.1)
+    let p = and_parts (nat_lt (digit_value d) 10) (are_digits ds) is in
+    (ltb-true (digit_value d) 10 p.0, digits_of ds p.1)
 
 are_digits_of : (ds : List ℕ) → AllDigits 10 ds → are_digits ds ≡ true
 are_digits_of [] h = refl
 are_digits_of (d ∷ ds) (lt, more) =
-    both_are (nat_lt (digit_value d) 10) (are_digits ds) (test_below (digit_value d) 10 lt) (are_digits_of ds more)
+    and_from (nat_lt (digit_value d) 10) (are_digits ds) (lt-ltb (digit_value d) 10 lt) (are_digits_of ds more)
 
 -- ---- numbers
 
@@ -65,28 +42,28 @@ unfolding number_in
 number_read range digits number is =
     let value = digits_value 10 digits in
     let found = if_some (nat_lt 0 (length digits) && (nat_le (length digits) 20 && (are_digits digits && is_in range value))) value number is in
-    let first = both (nat_lt 0 (length digits)) (nat_le (length digits) 20 && (are_digits digits && is_in range value)) found.0 in
-    let second = both (nat_le (length digits) 20) (are_digits digits && is_in range value) first.1 in
-    let third = both (are_digits digits) (is_in range value) second.1 in
-    let fourth = both (nat_le range.least value) (nat_le value range.most) third.1 in
+    let first = and_parts (nat_lt 0 (length digits)) (nat_le (length digits) 20 && (are_digits digits && is_in range value)) found.0 in
+    let second = and_parts (nat_le (length digits) 20) (are_digits digits && is_in range value) first.1 in
+    let third = and_parts (are_digits digits) (is_in range value) second.1 in
+    let fourth = and_parts (nat_le range.least value) (nat_le value range.most) third.1 in
     record {
-      numeral = (below 0 (length digits) first.0, digits_of digits third.0);
-      few = up_to (length digits) 20 second.0;
+      numeral = (ltb-true 0 (length digits) first.0, digits_of digits third.0);
+      few = leb-true (length digits) 20 second.0;
       value = found.1;
-      from = subst (λ n. range.least ≤ n) found.1 (up_to range.least value fourth.0);
-      up_to = subst (λ n. n ≤ range.most) found.1 (up_to value range.most fourth.1);
+      from = subst (λ n. range.least ≤ n) found.1 (leb-true range.least value fourth.0);
+      up_to = subst (λ n. n ≤ range.most) found.1 (leb-true value range.most fourth.1);
     }
 
 pub number_found : (range : Range) (digits : List ℕ) (number : ℕ) → IsNumber range digits number → number_in range digits ≡ Some number
 unfolding number_in
 number_found range digits number is =
     let value = digits_value 10 digits in
-    let from = test_up_to range.least value (subst (λ n. range.least ≤ n) (sym is.value) is.from) in
-    let to = test_up_to value range.most (subst (λ n. n ≤ range.most) (sym is.value) is.up_to) in
-    let fourth = both_are (nat_le range.least value) (nat_le value range.most) from to in
-    let third = both_are (are_digits digits) (is_in range value) (are_digits_of digits is.numeral.1) fourth in
-    let second = both_are (nat_le (length digits) 20) (are_digits digits && is_in range value) (test_up_to (length digits) 20 is.few) third in
-    let first = both_are (nat_lt 0 (length digits)) (nat_le (length digits) 20 && (are_digits digits && is_in range value)) (test_below 0 (length digits) is.numeral.0) second in
+    let from = le-leb range.least value (subst (λ n. range.least ≤ n) (sym is.value) is.from) in
+    let to = le-leb value range.most (subst (λ n. n ≤ range.most) (sym is.value) is.up_to) in
+    let fourth = and_from (nat_le range.least value) (nat_le value range.most) from to in
+    let third = and_from (are_digits digits) (is_in range value) (are_digits_of digits is.numeral.1) fourth in
+    let second = and_from (nat_le (length digits) 20) (are_digits digits && is_in range value) (le-leb (length digits) 20 is.few) third in
+    let first = and_from (nat_lt 0 (length digits)) (nat_le (length digits) 20 && (are_digits digits && is_in range value)) (lt-ltb 0 (length digits) is.numeral.0) second in
     if_true (nat_lt 0 (length digits) && (nat_le (length digits) 20 && (are_digits digits && is_in range value))) value number first is.value
 
 -- ---- as std reads them
@@ -99,12 +76,9 @@ pub alone : (b : Bool) → (b && true) ≡ false → b ≡ false
 alone true is = is
 alone false is = refl
 
-pub turned : (a b : ℕ) → nat_eq a b ≡ false → nat_eq b a ≡ false
-turned a b is = grind (arith, nat_tests)
-
 pub no_plus : (digits : List ℕ) → starts_with nat_eq digits (codes "+") ≡ false → without_leading_plus digits ≡ digits
 no_plus [] is = refl
-no_plus (d ∷ ds) is = without (nat_eq d 43) d ds (turned 43 d (alone (nat_eq 43 d) is))
+no_plus (d ∷ ds) is = without (nat_eq d 43) d ds (eqb-turned 43 d (alone (nat_eq 43 d) is))
 
 pub number_parsed : (range : Range) (digits : List ℕ) (number : ℕ) → without_leading_plus digits ≡ digits → length digits ≤ 20 → IsNumeral 10 (without_leading_plus digits) → number ≡ digits_value 10 (without_leading_plus digits) → range.least ≤ number → number ≤ range.most → Some number ≡ number_in range digits
 number_parsed range digits number whole few numeral value from to =

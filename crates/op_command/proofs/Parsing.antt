@@ -1,5 +1,6 @@
 -- `clap` takes each line of the grammar, and its matches have what the line asks for.
 use Rattle.std.proofs.Common.{◌≡◌, ℕ, ◌<◌, Bool, true, false, cond, not, ◌&&◌, ◌||◌, if◌then◌else◌, Option, Some, None, is_some, option_map, List, [], ◌∷◌, ◌++◌, append-nil, bytes_eq, codes, eqb-true, fold, length, nat_eq, nat_lt, arith, refl, ap, sym, ◌∙◌, subst}
+use Rattle.std.proofs.lemmas.Bool.{and_from, and_parts, not-true, or_parts}
 use Rattle.std.specs.Char.{digit_value}
 use Rattle.std.specs.List.{find, flat_map, list_all, list_any, starts_with}
 use Rattle.std.specs.Option.{option_and_then, option_map_or}
@@ -17,7 +18,8 @@ use Rattle.clap.specs.declared.parser.matches.ValueSource.TheVariants.{CommandLi
 use Rattle.clap.proofs.OnLiterals.{clap_on_literals}
 use Rattle.clap.proofs.SimpleLemmas.{is_nil}
 use Rattle.clap.proofs.WalkLemmas.{walk_stopped}
-use Rattle.op_command.proofs.Numbers.{alone, both, both_are, not_true, number_found, turned}
+use Rattle.op_base.proofs.Tests.{eqb-turned}
+use Rattle.op_command.proofs.Numbers.{alone, number_found}
 use Rattle.op_command.proofs.Reading.{is_named, word_of_verb}
 use Rattle.op_command.specs.Command.{Asked, IsAtMostOneCommand, IsCommand, IsGiven, IsNumber, Piece, Range, heap_of, heap_range, is_name, is_operand, makes_image, operands_of, runs_image, stack_of, stack_range, step_range, steps_of, the_heap, the_operand, the_stack, the_steps, word_of, words_of}
 use Rattle.op_command.specs.Line.{asked_by_matches, asked_in_matches, asked_with, line, number_or}
@@ -101,7 +103,7 @@ rest_passes s their w stop (word ∷ words) = rest_passes s their w (stop.0, sto
 line_walks : (one : Verb) (rest : List Text) → walk_passes top names (walk_from nothing_held) (word_of one ∷ rest) ≡ true
 unfolding walk_passes
 line_walks one rest =
-    both_are (turn_passes top names (walk_from nothing_held) (word_of one)) (walk_passes top names (walked top.rules names (walk_from nothing_held) (word_of one)) rest) (is_met one)
+    and_from (turn_passes top names (walk_from nothing_held) (word_of one)) (walk_passes top names (walked top.rules names (walk_from nothing_held) (word_of one)) rest) (is_met one)
     (ap (λ (w : Walk). walk_passes top names w rest) (stops one) ∙ rest_passes top names (walk_from nothing_held) (word_of one, []) rest)
 
 top_passes : (one : Verb) (rest : List Text) (has : Bool) → level_passes top names nothing_held (word_of one ∷ rest) has ≡ true
@@ -113,8 +115,8 @@ takes_line : (one : Verb) (rest : List Text) → level_passes (leaf one) [] noth
 takes_line one rest is =
     let stop = (walk top.rules names nothing_held (word_of one ∷ rest)).stopped in
     let enters = ap (λ (w : Walk). entered_passes (built line) w.stopped) (walk_of_line one rest) ∙ ap (λ o. option_map_or (λ s. level_passes s [] nothing_held rest false) o true) (finds_leaf one) ∙ is in
-    both_are (is_simple line) (built_takes (built line) nothing_held (word_of one ∷ rest)) is_simple_line
-    (both_are (entered_passes (built line) stop) (level_passes top names nothing_held (word_of one ∷ rest) (is_some (entered (built line) stop))) enters (top_passes one rest (is_some (entered (built line) stop))))
+    and_from (is_simple line) (built_takes (built line) nothing_held (word_of one ∷ rest)) is_simple_line
+    (and_from (entered_passes (built line) stop) (level_passes top names nothing_held (word_of one ∷ rest) (is_some (entered (built line) stop))) enters (top_passes one rest (is_some (entered (built line) stop))))
 
 matches_of_line : (one : Verb) (rest : List Text) → subcommand_of line (word_of one ∷ rest) ≡ Some (word_of one, rows_after (rules one) [] rest)
 matches_of_line one rest = ap (λ (w : Walk). entered (built line) w.stopped) (walk_of_line one rest) ∙ ap (option_map (λ s. rows_at s rest)) (finds_leaf one)
@@ -137,8 +139,8 @@ plain_word x xs is =
 plain_name : (name : Text) → is_name name ≡ true → IsPlain name
 plain_name [] is = absurd cc
 plain_name (x ∷ xs) is =
-    let first = both (nat_lt 0 (length (x ∷ xs))) (not (starts_with nat_eq (x ∷ xs) (codes "-"))) is in
-    plain_word x xs (turned 45 x (alone (nat_eq 45 x) (not_true (starts_with nat_eq (x ∷ xs) (codes "-")) first.1)))
+    let first = and_parts (nat_lt 0 (length (x ∷ xs))) (not (starts_with nat_eq (x ∷ xs) (codes "-"))) is in
+    plain_word x xs (eqb-turned 45 x (alone (nat_eq 45 x) (not-true (starts_with nat_eq (x ∷ xs) (codes "-")) first.1)))
 
 no_dash : (x : ℕ) → digit_value x < 10 → nat_eq x 45 ≡ false
 no_dash x is = go (nat_eq x 45) refl
@@ -159,14 +161,10 @@ plain_digits (x ∷ xs) is = plain_word x xs (no_dash x is.1.0)
 abbrev row : Text → Text → Row
 row id text = record { id = id; values = text ∷ []; count = None; source = Some CommandLine; reading = reading_of vp.String }
 
-neither : (a b : Bool) → (a || b) ≡ false → (a ≡ false) × (b ≡ false)
-neither true b is = absurd cc
-neither false b is = (refl, is)
-
 row_missing : (id : Text) (change : Row → List Row) (missing : List Row) (rows : List Row) → has_row id rows ≡ false → at_row id change missing rows ≡ rows ++ missing
 row_missing id change missing [] none = refl
 row_missing id change missing (r ∷ rows) none =
-    let first = neither (bytes_eq r.id id) (has_row id rows) none in
+    let first = or_parts (bytes_eq r.id id) (has_row id rows) none in
     ap (λ b. if b then change r ++ rows else r ∷ at_row id change missing rows) first.0 ∙ ap (λ more. r ∷ more) (row_missing id change missing rows first.1)
 
 any_before : {X : Type 0} (test : X → Bool) (xs : List X) (x : X) → test x ≡ false → list_any test (xs ++ x ∷ []) ≡ list_any test xs
@@ -180,13 +178,13 @@ find_before test (y ∷ xs) x is = ap (λ o. cond (test y) (Some y) o) (find_bef
 find_last : {X : Type 0} (test : X → Bool) (xs : List X) (x : X) → list_any test xs ≡ false → test x ≡ true → find test (xs ++ x ∷ []) ≡ Some x
 find_last test [] x none is = ap (λ b. cond b (Some x) None) is
 find_last test (y ∷ xs) x none is =
-    let first = neither (test y) (list_any test xs) none in
+    let first = or_parts (test y) (list_any test xs) none in
     ap (λ b. cond b (Some y) (find test (xs ++ x ∷ []))) first.0 ∙ find_last test xs x first.1 is
 
 find_none : {X : Type 0} (test : X → Bool) (xs : List X) → list_any test xs ≡ false → find test xs ≡ None
 find_none test [] none = refl
 find_none test (x ∷ xs) none =
-    let first = neither (test x) (list_any test xs) none in
+    let first = or_parts (test x) (list_any test xs) none in
     ap (λ b. cond b (Some x) (find test xs)) first.0 ∙ find_none test xs first.1
 
 -- the rows have these values of an argument, one at most
@@ -261,7 +259,7 @@ plain_passes s word h is =
 operand_passes : (s : Shape) (h : Held) (name : Text) → arg_by_index s.rules 1 ≡ Some file → IsPlain name → settle_passes s.rules s.args_override_self h ≡ true → turn_passes s [] (at h 1) name ≡ true
 operand_passes s h name found is passes =
     let met = word_met s.rules [] false idle 1 name h in
-    both_are (word_passes s [] false idle name h) (step_passes s 1 met.0 met.1) (plain_passes s name h is)
+    and_from (word_passes s [] false idle name h) (step_passes s 1 met.0 met.1) (plain_passes s name h is)
     (ap (λ (to : Held × Step). step_passes s 1 to.0 to.1) (operand_met s.rules h name is)
     ∙ ap (λ o. option_map_or (λ a. positional_passes s.rules s.args_override_self a h) o false) found
     ∙ last_holds (is_pending file h.pending) (settle_passes s.rules s.args_override_self h) passes)
@@ -296,7 +294,7 @@ option_passes : (s : Shape) (h : Held) (position : ℕ) (word id : Text) → Ope
 option_passes s h position word id opens passes =
     let again = s.args_override_self in
     let met = word_met s.rules [] false idle position word h in
-    both_are (word_passes s [] false idle word h) (step_passes s position met.0 met.1)
+    and_from (word_passes s [] false idle word h) (step_passes s position met.0 met.1)
     (ap (λ b. b || flag_word_passes s.rules again (long_of word) word h) opens.dashes
     ∙ ap (λ l. flag_word_passes s.rules again l word h) opens.long ∙ ap (λ a. long_passes s.rules again a None h) opens.by_long ∙ passes)
     (ap (λ (to : Held × Step). step_passes s position to.0 to.1) (option_met s.rules h position word id opens))
@@ -317,7 +315,7 @@ digits_pass : (s : Shape) (h : Held) (position : ℕ) (word id digits : Text) �
 digits_pass s h position word id digits opens is =
     let held = opened s.rules h id in
     let met = word_met s.rules [] false (option id) position digits held in
-    both_are (word_passes s [] false (option id) digits held) (step_passes s position met.0 met.1) (plain_passes s digits held is)
+    and_from (word_passes s [] false (option id) digits held) (step_passes s position met.0 met.1) (plain_passes s digits held is)
     (ap (λ (to : Held × Step). step_passes s position to.0 to.1) (digits_met s.rules h position word id digits opens is))
 
 -- ---- the arguments of a command
@@ -378,7 +376,7 @@ either_way false x = refl
 default_stays : (c : List Rule) (rows : List Row) → list_all (λ (a : Rule). is_empty a.defaults) c ≡ true → fold with_default rows c ≡ rows
 default_stays [] rows none = refl
 default_stays (a ∷ c) rows none =
-    let first = both (is_empty a.defaults) (list_all (λ (a : Rule). is_empty a.defaults) c) none in
+    let first = and_parts (is_empty a.defaults) (list_all (λ (a : Rule). is_empty a.defaults) c) none in
     ap (λ (now : List Row). fold with_default now c)
     (ap (λ defaults. if has_row a.id rows then rows else default_rows a.id (reading_by a) defaults rows) (is_nil a.defaults first.0) ∙ either_way (has_row a.id rows) rows)
     ∙ default_stays c rows first.1
@@ -418,7 +416,7 @@ unfolding walk_passes
 through_word asked w after word rest turn is through =
     let more = subst (λ (w : Walk). Through asked w rest) (sym is) through in
     record {
-      passes = both_are (turn_passes (leaf asked.verb) [] w word) (walk_passes (leaf asked.verb) [] (walked (rules asked.verb) [] w word) rest) turn more.passes;
+      passes = and_from (turn_passes (leaf asked.verb) [] w word) (walk_passes (leaf asked.verb) [] (walked (rules asked.verb) [] w word) rest) turn more.passes;
       rows = more.rows;
       stands = more.stands;
       has_file = more.has_file;
@@ -578,9 +576,9 @@ leaf_passes asked words is =
     let c = rules asked.verb in
     let end = (walk c [] nothing_held words).held in
     let finishes = default_stays c (settled c end).rows (no_defaults asked.verb) ∙ is.stands.are in
-    both_are (walk_passes (leaf asked.verb) [] (walk_from nothing_held) words) (settle_passes c false end && (list_all default_passes c && is_valid (leaf asked.verb) (finished c end) false)) is.passes
-    (both_are (settle_passes c false end) (list_all default_passes c && is_valid (leaf asked.verb) (finished c end) false) is.stands.passes
-    (both_are (list_all default_passes c) (is_valid (leaf asked.verb) (finished c end) false) (defaults_pass asked.verb)
+    and_from (walk_passes (leaf asked.verb) [] (walk_from nothing_held) words) (settle_passes c false end && (list_all default_passes c && is_valid (leaf asked.verb) (finished c end) false)) is.passes
+    (and_from (settle_passes c false end) (list_all default_passes c && is_valid (leaf asked.verb) (finished c end) false) is.stands.passes
+    (and_from (list_all default_passes c) (is_valid (leaf asked.verb) (finished c end) false) (defaults_pass asked.verb)
     (valid_given asked.verb (finished c end) (ap (is_given (codes "file")) finishes ∙ is.has_file))))
 
 leaf_asks : (asked : Asked) (words : List Text) → Through asked (walk_from nothing_held) words → asked_by_matches asked.verb (rows_after (rules asked.verb) [] words) ≡ Some asked

@@ -1,11 +1,12 @@
 -- The words that pass the tests are those that ask for something.
 use Rattle.std.proofs.Common.{◌≡◌, ℕ, Bool, true, false, not, ◌&&◌, if◌then◌else◌, Option, Some, None, is_some, List, [], ◌∷◌, ◌++◌, codes, bytes_eq, nat_le, ◌≤◌, arith, refl, ap, sym, ◌∙◌, subst}
+use Rattle.std.proofs.lemmas.Bool.{and_from, and_parts, not-true}
 use Rattle.std.proofs.lemmas.Bool.Decides.{nat_tests}
 use Rattle.std.proofs.lemmas.Slice.Eq.{bytes_eq-Decides}
 use Rattle.std.specs.List.{flat_map}
 use Rattle.std.specs.Option.{option_map_or}
 use Rattle.op_link.specs.Memory.{are_in_range}
-use Rattle.op_command.proofs.Numbers.{both, both_are, if_some, if_true, not_true, number_found, number_read}
+use Rattle.op_command.proofs.Numbers.{if_some, if_true, number_found, number_read}
 use Rattle.op_command.specs.Command.{Asked, IsCommand, IsGiven, IsNoCommand, IsSomeCommand, Piece, Range, heap_of, heap_range, is_name, is_operand, operands_of, stack_of, stack_range, step_range, steps_of, makes_image, runs_image, the_heap, the_operand, the_stack, the_steps, word_of, words_of}
 use Rattle.op_command.specs.Reading.{completes, is_command, is_given, nothing, number_in, verb_of, with_heap, with_option, with_stack, with_steps}
 use Rattle.op_command.specs.declared.command.Met.{Met}
@@ -53,13 +54,13 @@ pub record Adds (one : Verb) (met : Met) (words : List (List ℕ)) : Type 0 wher
 add_operand : (one : Verb) (name : List ℕ) (rest : List (List ℕ)) (met : Met) → (not met.operand && (is_operand one name && completes one None (record met { operand = true }) rest)) ≡ true
     → (completes one None (record met { operand = true }) rest ≡ true → Adds one (record met { operand = true }) rest) → Adds one met (name ∷ rest)
 add_operand one name rest met is adds =
-    let first = both (not met.operand) (is_operand one name && completes one None (record met { operand = true }) rest) is in
-    let second = both (is_operand one name) (completes one None (record met { operand = true }) rest) first.1 in
+    let first = and_parts (not met.operand) (is_operand one name && completes one None (record met { operand = true }) rest) is in
+    let second = and_parts (is_operand one name) (completes one None (record met { operand = true }) rest) first.1 in
     let more = adds second.1 in
     record {
       pieces = the_operand name ∷ more.pieces;
       are = ap (λ words. name ∷ words) more.are;
-      operand = once_first (is_operand one) met.operand name (flat_map operands_of more.pieces) (not_true met.operand first.0) second.0 more.operand;
+      operand = once_first (is_operand one) met.operand name (flat_map operands_of more.pieces) (not-true met.operand first.0) second.0 more.operand;
       has_operand = tt;
       steps = more.steps;
       heap = more.heap;
@@ -69,14 +70,14 @@ add_operand one name rest met is adds =
 add_steps : (one : Verb) (digits : List ℕ) (rest : List (List ℕ)) (met more : Met) → with_steps one digits met ≡ Some more → Adds one more rest → Adds one met (codes "--steps" ∷ digits ∷ rest)
 add_steps one digits rest met more is adds =
     let made = if_some (not met.steps && is_given (runs_image one) step_range digits) (record met { steps = true }) more is in
-    let parts = both (not met.steps) (is_given (runs_image one) step_range digits) made.0 in
+    let parts = and_parts (not met.steps) (is_given (runs_image one) step_range digits) made.0 in
     let further = subst (λ m. Adds one m rest) (sym made.1) adds in
     record {
       pieces = the_steps digits ∷ further.pieces;
       are = ap (λ words. codes "--steps" ∷ digits ∷ words) further.are;
       operand = further.operand;
       has_operand = further.has_operand;
-      steps = once_first (is_given (runs_image one) step_range) met.steps digits (flat_map steps_of further.pieces) (not_true met.steps parts.0) parts.1 further.steps;
+      steps = once_first (is_given (runs_image one) step_range) met.steps digits (flat_map steps_of further.pieces) (not-true met.steps parts.0) parts.1 further.steps;
       heap = further.heap;
       stack = further.stack;
     }
@@ -84,7 +85,7 @@ add_steps one digits rest met more is adds =
 add_heap : (one : Verb) (digits : List ℕ) (rest : List (List ℕ)) (met more : Met) → with_heap one digits met ≡ Some more → Adds one more rest → Adds one met (codes "--heap" ∷ digits ∷ rest)
 add_heap one digits rest met more is adds =
     let made = if_some (not met.heap && is_given (makes_image one) heap_range digits) (record met { heap = true }) more is in
-    let parts = both (not met.heap) (is_given (makes_image one) heap_range digits) made.0 in
+    let parts = and_parts (not met.heap) (is_given (makes_image one) heap_range digits) made.0 in
     let further = subst (λ m. Adds one m rest) (sym made.1) adds in
     record {
       pieces = the_heap digits ∷ further.pieces;
@@ -92,14 +93,14 @@ add_heap one digits rest met more is adds =
       operand = further.operand;
       has_operand = further.has_operand;
       steps = further.steps;
-      heap = once_first (is_given (makes_image one) heap_range) met.heap digits (flat_map heap_of further.pieces) (not_true met.heap parts.0) parts.1 further.heap;
+      heap = once_first (is_given (makes_image one) heap_range) met.heap digits (flat_map heap_of further.pieces) (not-true met.heap parts.0) parts.1 further.heap;
       stack = further.stack;
     }
 
 add_stack : (one : Verb) (digits : List ℕ) (rest : List (List ℕ)) (met more : Met) → with_stack one digits met ≡ Some more → Adds one more rest → Adds one met (codes "--stack" ∷ digits ∷ rest)
 add_stack one digits rest met more is adds =
     let made = if_some (not met.stack && is_given (makes_image one) stack_range digits) (record met { stack = true }) more is in
-    let parts = both (not met.stack) (is_given (makes_image one) stack_range digits) made.0 in
+    let parts = and_parts (not met.stack) (is_given (makes_image one) stack_range digits) made.0 in
     let further = subst (λ m. Adds one m rest) (sym made.1) adds in
     record {
       pieces = the_stack digits ∷ further.pieces;
@@ -108,7 +109,7 @@ add_stack one digits rest met more is adds =
       has_operand = further.has_operand;
       steps = further.steps;
       heap = further.heap;
-      stack = once_first (is_given (makes_image one) stack_range) met.stack digits (flat_map stack_of further.pieces) (not_true met.stack parts.0) parts.1 further.stack;
+      stack = once_first (is_given (makes_image one) stack_range) met.stack digits (flat_map stack_of further.pieces) (not-true met.stack parts.0) parts.1 further.stack;
     }
 
 -- by the first test that holds
@@ -158,14 +159,14 @@ some_number (Some a) is = (a, refl)
 given_number : (taken : Bool) (range : Range) (values : List (List ℕ)) → Once (is_given taken range) false values → (number : ℕ) × IsGiven taken range values number
 given_number taken range [] once = (range.default, refl)
 given_number taken range (digits ∷ []) (none, is) =
-    let parts = both taken (is_some (number_in range digits)) is in
+    let parts = and_parts taken (is_some (number_in range digits)) is in
     let some = some_number (number_in range digits) parts.1 in
     (some.0, (parts.0, number_read range digits some.0 some.1))
 given_number taken range (digits ∷ again ∷ more) never = absurd never
 
 once_given : (taken : Bool) (range : Range) (values : List (List ℕ)) (number : ℕ) → IsGiven taken range values number → Once (is_given taken range) false values
 once_given taken range [] number same = tt
-once_given taken range (digits ∷ []) number (is, meant) = (refl, both_are taken (is_some (number_in range digits)) is (ap is_some (number_found range digits number meant)))
+once_given taken range (digits ∷ []) number (is, meant) = (refl, and_from taken (is_some (number_in range digits)) is (ap is_some (number_found range digits number meant)))
 once_given taken range (digits ∷ again ∷ more) number never = absurd never
 
 one_operand : (one : Verb) (values : List (List ℕ)) → Once (is_operand one) false values → HasOne false values → (name : List ℕ) × (values ≡ name ∷ []) × (is_operand one name ≡ true)
@@ -224,23 +225,23 @@ is_some_command (word ∷ rest) is =
 -- ---- commands pass
 
 pub is_named : (verb : Verb) (name : List ℕ) → is_operand verb name ≡ true → is_name name ≡ true
-is_named verb.Exec name is = (both _ _ is).0
-is_named verb.Build name is = (both _ _ is).0
-is_named verb.Check name is = (both _ _ is).0
-is_named verb.List name is = (both _ _ is).0
+is_named verb.Exec name is = (and_parts _ _ is).0
+is_named verb.Build name is = (and_parts _ _ is).0
+is_named verb.Check name is = (and_parts _ _ is).0
+is_named verb.List name is = (and_parts _ _ is).0
 is_named verb.Run name is = is
 
 meets_steps : (one : Verb) (digits : List ℕ) (met : Met) → met.steps ≡ false → is_given (runs_image one) step_range digits ≡ true → with_option one (codes "--steps") digits met ≡ Some (record met { steps = true })
 unfolding with_option
-meets_steps one digits met none is = if_true (not met.steps && is_given (runs_image one) step_range digits) (record met { steps = true }) (record met { steps = true }) (both_are (not met.steps) (is_given (runs_image one) step_range digits) (ap not none) is) refl
+meets_steps one digits met none is = if_true (not met.steps && is_given (runs_image one) step_range digits) (record met { steps = true }) (record met { steps = true }) (and_from (not met.steps) (is_given (runs_image one) step_range digits) (ap not none) is) refl
 
 meets_heap : (one : Verb) (digits : List ℕ) (met : Met) → met.heap ≡ false → is_given (makes_image one) heap_range digits ≡ true → with_option one (codes "--heap") digits met ≡ Some (record met { heap = true })
 unfolding with_option
-meets_heap one digits met none is = if_true (not met.heap && is_given (makes_image one) heap_range digits) (record met { heap = true }) (record met { heap = true }) (both_are (not met.heap) (is_given (makes_image one) heap_range digits) (ap not none) is) refl
+meets_heap one digits met none is = if_true (not met.heap && is_given (makes_image one) heap_range digits) (record met { heap = true }) (record met { heap = true }) (and_from (not met.heap) (is_given (makes_image one) heap_range digits) (ap not none) is) refl
 
 meets_stack : (one : Verb) (digits : List ℕ) (met : Met) → met.stack ≡ false → is_given (makes_image one) stack_range digits ≡ true → with_option one (codes "--stack") digits met ≡ Some (record met { stack = true })
 unfolding with_option
-meets_stack one digits met none is = if_true (not met.stack && is_given (makes_image one) stack_range digits) (record met { stack = true }) (record met { stack = true }) (both_are (not met.stack) (is_given (makes_image one) stack_range digits) (ap not none) is) refl
+meets_stack one digits met none is = if_true (not met.stack && is_given (makes_image one) stack_range digits) (record met { stack = true }) (record met { stack = true }) (and_from (not met.stack) (is_given (makes_image one) stack_range digits) (ap not none) is) refl
 
 pieces_pass : (pieces : List Piece) (one : Verb) (met : Met) → Once (is_operand one) met.operand (flat_map operands_of pieces) → HasOne met.operand (flat_map operands_of pieces) → Once (is_given (runs_image one) step_range) met.steps (flat_map steps_of pieces)
     → Once (is_given (makes_image one) heap_range) met.heap (flat_map heap_of pieces) → Once (is_given (makes_image one) stack_range) met.stack (flat_map stack_of pieces) → completes one None met (flat_map words_of pieces) ≡ true
@@ -251,8 +252,8 @@ pieces_pass (the_operand name ∷ pieces) one met operand has steps heap stack =
     let passes = completes one None (record met { operand = true }) rest in
     let first = first_once (is_operand one) met.operand name (flat_map operands_of pieces) operand in
     ap (λ b. if b then not met.operand && (is_operand one name && passes) else completes one (Some name) met rest) (is_named one name first.1)
-    ∙ both_are (not met.operand) (is_operand one name && passes) (ap not first.0)
-    (both_are (is_operand one name) passes first.1 (pieces_pass pieces one (record met { operand = true }) first.2 (has_met (flat_map operands_of pieces)) steps heap stack))
+    ∙ and_from (not met.operand) (is_operand one name && passes) (ap not first.0)
+    (and_from (is_operand one name) passes first.1 (pieces_pass pieces one (record met { operand = true }) first.2 (has_met (flat_map operands_of pieces)) steps heap stack))
 pieces_pass (the_steps digits ∷ pieces) one met operand has steps heap stack =
     let first = first_once (is_given (runs_image one) step_range) met.steps digits (flat_map steps_of pieces) steps in
     ap (λ o. option_map_or (λ more. completes one None more (flat_map words_of pieces)) o false) (meets_steps one digits met first.0 first.1)

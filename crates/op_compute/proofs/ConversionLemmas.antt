@@ -3,11 +3,12 @@ use Rattle.std.proofs.Common.{◌≡◌, ℕ, ℤ, pos, negsuc, ◌+◌, ◌%◌
 use Rattle.std.specs.Int.{w32, from_bool, int_bit_not}
 use Rattle.std.specs.Int.RustNames.{FitsSigned}
 use Rattle.std.specs.Ordering.{int_eq}
+use Rattle.op_base.proofs.Tests.{twice_not}
 use Rattle.op_compute.proofs.ComparisonLemmas.{truth_set}
 use Rattle.op_compute.proofs.RangeLemmas.{range_then, sum_then, every_number}
 use Rattle.op_compute.proofs.Registers.{put_same, put_lower, kept_none, kept_scratch, kept_result, result_set, moved, tested}
 use Rattle.op_compute.proofs.WordBits.{complement_is}
-use Rattle.op_compute.proofs.WordParts.{absolute_is, absolute_test, zero_is, twice, odd_is, byte_is, half_is, signed_byte_is, signed_half_is, upper_is, in_front, sum_with_is, between_fits}
+use Rattle.op_compute.proofs.WordParts.{absolute_is, absolute_test, zero_is, odd_is, byte_is, half_is, signed_byte_is, signed_half_is, upper_is, in_front, sum_with_is, between_fits}
 use Rattle.op_compute.proofs.Words.{word_wraps, word_fits, number_is}
 use Rattle.op_compute.specs.Arithmetic.{least_test, absolute_code}
 use Rattle.op_compute.specs.Conversions.{low_bits_code, upper_code, check_code, neighbour_test, neighbour_code}
@@ -36,7 +37,7 @@ module _ (w : Work) (o : Operands) (f : ℕ → ℕ) (x : ℤ) (apart : IsApart 
   complement = result_set w o.to f f (imm_of Xori (f o.left.0) (negsuc 0)) (int_bit_not w32 x) (kept_none w o.to f) (complement_is (f o.left.0) x p)
 
   pub invert : Answers w o.to f (gives (truth (not (is_true x)))) (Behind (put f o.to (imm_of Sltiu (f o.left.0) (pos 1))))
-  invert = truth_set w o.to f f (imm_of Sltiu (f o.left.0) (pos 1)) (not (is_true x)) (kept_none w o.to f) (zero_is (f o.left.0) x p ∙ ap from_bool (twice (int_eq x (pos 0))))
+  invert = truth_set w o.to f f (imm_of Sltiu (f o.left.0) (pos 1)) (not (is_true x)) (kept_none w o.to f) (zero_is (f o.left.0) x p ∙ ap from_bool (twice_not (int_eq x (pos 0))))
 
   pub odd : Answers w o.to f (gives (truth (bit x 0))) (Behind (put f o.to (imm_of Andi (f o.left.0) (pos 1))))
   odd = truth_set w o.to f f (imm_of Andi (f o.left.0) (pos 1)) (bit x 0) (kept_none w o.to f) (odd_is (f o.left.0) x p)

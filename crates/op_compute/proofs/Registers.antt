@@ -1,6 +1,8 @@
 -- Registers, of which one has another value, and parts of what code comes to.
 use Rattle.std.proofs.Common.{◌≡◌, ◌≢◌, ℕ, ℤ, ◌<◌, ◌≤◌, Bool, true, false, not, nat_eq, refl, ap₂, sym, ◌∙◌, subst, arith, if◌then◌else◌}
+use Rattle.std.proofs.lemmas.Bool.{ne_eqb}
 use Rattle.std.proofs.lemmas.Bool.Decides.{nat_tests}
+use Rattle.op_base.proofs.Tests.{eqb-itself}
 use Rattle.op_compute.specs.Meaning.{Meant, gives, fails, computed, Answers, AreKept, IsApart, IsWordOf, block_for}
 use Rattle.op_compute.specs.Moves.{move_code}
 use Rattle.op_compute.specs.Straight.{put, outcome, takes, Outcome, Behind, Away}
@@ -14,19 +16,13 @@ use Rattle.op_rv.specs.declared.instruction.BranchOp.TheVariants.{Bne}
 
 -- ---- one register
 
-same_number : (n : ℕ) → nat_eq n n ≡ true
-same_number n = grind (arith, nat_tests)
-
-other_number : (n k : ℕ) → n ≢ k → nat_eq n k ≡ false
-other_number n k p = grind (arith, nat_tests)
-
 pub put_same : (f : ℕ → ℕ) (to : VirtualRegister) (v : ℕ) → put f to v to.0 ≡ v
 unfolding put
-put_same f to v = simp (same_number to.0) refl
+put_same f to v = simp (eqb-itself to.0) refl
 
 pub put_other : (f : ℕ → ℕ) (to : VirtualRegister) (v n : ℕ) → n ≢ to.0 → put f to v n ≡ f n
 unfolding put
-put_other f to v n p = simp (other_number n to.0 p) refl
+put_other f to v n p = simp (ne_eqb n to.0 p) refl
 
 pub put_lower : (f : ℕ → ℕ) (to : VirtualRegister) (v n : ℕ) → n < to.0 → put f to v n ≡ f n
 put_lower f to v n p = put_other f to v n (omega arith)

@@ -8,9 +8,10 @@ use Rattle.std.specs.Int.RustNames.{FitsSigned}
 use Rattle.std.specs.List.{list_any, flat_map}
 use Rattle.std.specs.Ordering.{int_eq}
 use Rattle.std.specs.Prelude.{int_lt}
+use Rattle.op_base.proofs.Tests.{twice_not}
 use Rattle.op_compute.proofs.RangeLemmas.{distance_then, register_below}
 use Rattle.op_compute.proofs.Registers.{put_same, put_lower}
-use Rattle.op_compute.proofs.WordParts.{gap, range_test, none_between, twice}
+use Rattle.op_compute.proofs.WordParts.{gap, range_test, none_between}
 use Rattle.op_compute.proofs.WordProducts.{zero_test}
 use Rattle.op_compute.proofs.Words.{number_is, small_is}
 use Rattle.op_compute.specs.Branches.{block_of, true_code, false_code, label_code, labels_code, arm_code, arms_code, switch_code, way_code, dispatch_code}
@@ -147,7 +148,7 @@ module _ (w : Work) (from : VirtualRegister) (f : ℕ → ℕ) (x : ℤ) (reads 
       ap₂ (takes Bgeu) (put_same h w.second width) (put_lower h w.second width register.0 (register_below w operands g apart label.first) ∙ value)
       ∙ not_below width (gap (g from.0) l)
       ∙ ap not (range_test (g from.0) l (cast_unsigned w32 label.last) x label.first label.last (word_in g kept) (number_is label.first first) (number_is label.last last) e)
-      ∙ sym (twice (label_has x label)) in
+      ∙ sym (twice_not (label_has x label)) in
       turned w f k (takes Bgeu (k w.second.0) (k register.0)) (label_has x label) block found (outcome rest k) test now (behind k now)))
 
   label_then : (third : w.second.0 < w.third.0) (label : Label) (block : BlockId) (found : Option ℕ) (rest : List Instruction) (g : ℕ → ℕ) → FitsSigned w32 label.first → FitsSigned w32 label.last → AreAllKept w f g → ((h : ℕ → ℕ) → AreAllKept w f h → Turns w f found (outcome rest h)) → Turns w f (if label_has x label then Some block.0 else found) (outcome (label_code w from block label ++ rest) g)

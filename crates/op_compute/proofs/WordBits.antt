@@ -3,7 +3,7 @@ use Rattle.std.proofs.Common.{◌≡◌, ◌≢◌, ℕ, ℤ, pos, negsuc, ◌-�
 use Rattle.std.proofs.lemmas.Bool.{cases_eq}
 use Rattle.std.proofs.lemmas.Bool.Decides.{nat_tests}
 use Rattle.std.proofs.lemmas.Int.{ints}
-use Rattle.std.proofs.lemmas.Nat.{and_le_l, and_le_r, and_mask, or_lt, xor_lt}
+use Rattle.std.proofs.lemmas.Nat.{and_le_l, and_mask, or_lt, xor_lt}
 use Rattle.std.specs.Int.{w32, from_bool, cast_unsigned, int_bit_and, int_bit_or, int_bit_xor, int_bit_not, bit_not}
 use Rattle.std.specs.Int.Bits.{bit_and, bit_or, bit_xor, xor_add_and, xor_self}
 use Rattle.std.specs.Ordering.{int_eq}
@@ -11,6 +11,7 @@ use Rattle.op_compute.proofs.Words.{unsigned_is}
 use Rattle.op_compute.specs.Meaning.{IsWordOf}
 use Rattle.op_compute.specs.Straight.{alu_of, imm_of, shift_of}
 use Rattle.op_meaning.specs.Numbers.{exact}
+use Rattle.op_rv.proofs.Numbers.{xor_apart}
 use Rattle.op_rv.specs.Operation.{signed}
 use Rattle.op_rv.specs.declared.instruction.AluOp.TheVariants.{And, Or, Xor, Sll, Srl}
 use Rattle.op_rv.specs.declared.instruction.ImmOp.TheVariants.{Sltiu, Xori}
@@ -85,9 +86,6 @@ unfolding shift_of
 sign_all a p q = grind (arith, ints, nat_tests)
 
 -- ---- equality
-
-xor_apart : (a b : ℕ) → a ≢ b → nat_lt (bit_xor a b) 1 ≡ false
-xor_apart a b p = grind (arith, nat_tests, xor_add_and a b, and_le_l a b, and_le_r a b)
 
 one_number : (x : ℤ) → int_eq x x ≡ true
 one_number x = grind (arith, ints)

@@ -9,6 +9,7 @@ use Rattle.std.specs.Int.Bits.{bit_and, xor_zero_r}
 use Rattle.std.specs.Int.RustNames.{FitsSigned}
 use Rattle.std.specs.Ordering.{int_eq}
 use Rattle.std.specs.Prelude.{int_lt}
+use Rattle.op_base.proofs.Tests.{twice_not}
 use Rattle.op_compute.proofs.WordBits.{sign_none, sign_all, xor_ones}
 use Rattle.op_compute.proofs.Words.{unsigned_is, wrapped_is, number_is}
 use Rattle.op_compute.specs.Meaning.{IsWordOf}
@@ -69,10 +70,6 @@ is_zero a p = grind (arith, ints, nat_tests)
 pub zero_is : (a : ℕ) (x : ℤ) → IsWordOf a x → imm_of Sltiu a (pos 1) ≡ from_bool (int_eq x (pos 0))
 unfolding imm_of
 zero_is a x p = ap from_bool (is_zero a p.bound ∙ ap (λ z. int_eq z (pos 0)) p.number)
-
-pub twice : (b : Bool) → b ≡ not (not b)
-twice true = refl
-twice false = refl
 
 lowest : (r : ℕ) → r < 2 → r ≡ from_bool (nat_eq r 1)
 lowest zero p = refl

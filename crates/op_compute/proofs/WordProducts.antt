@@ -14,6 +14,7 @@ use Rattle.op_compute.proofs.WordBits.{sign_none, sign_all}
 use Rattle.op_compute.specs.Meaning.{IsWordOf}
 use Rattle.op_compute.specs.Straight.{alu_of, shift_of, takes}
 use Rattle.op_meaning.specs.Numbers.{fits_word, wrapped}
+use Rattle.op_rv.proofs.Numbers.{abs_div, abs_signed, not_negative}
 use Rattle.op_rv.specs.Operation.{signed, upper_word, word_from}
 use Rattle.op_rv.specs.declared.instruction.AluOp.TheVariants.{And, Mul, Mulh, Div, Rem}
 use Rattle.op_rv.specs.declared.instruction.BranchOp.TheVariants.{Beq, Blt, Bne}
@@ -26,13 +27,10 @@ unfolding alu_of
 product_is a b x y p q =
     record { number = wrapping_mul-bits w32 a b p.bound q.bound ∙ ap₂ (λ u v. int_wrap w32 (u *ℤ v)) p.number q.number; bound = omega arith }
 
-abs_word : (a : ℕ) → a < 2 ^ 32 → unsigned_abs (signed a) ≤ 2 ^ 31
-abs_word a p = grind (arith, ints)
-
 abs_product : (a b : ℕ) (x y : ℤ) → IsWordOf a x → IsWordOf b y → unsigned_abs (x *ℤ y) ≤ 2 ^ 62
 abs_product a b x y p q =
-    let first : unsigned_abs x ≤ 2 ^ 31 = subst (λ z. unsigned_abs z ≤ 2 ^ 31) p.number (abs_word a p.bound) in
-    let second : unsigned_abs y ≤ 2 ^ 31 = subst (λ z. unsigned_abs z ≤ 2 ^ 31) q.number (abs_word b q.bound) in
+    let first : unsigned_abs x ≤ 2 ^ 31 = subst (λ z. unsigned_abs z ≤ 2 ^ 31) p.number (abs_signed a p.bound) in
+    let second : unsigned_abs y ≤ 2 ^ 31 = subst (λ z. unsigned_abs z ≤ 2 ^ 31) q.number (abs_signed b q.bound) in
     omega (arith, unsigned_abs-mul x y, mul-le (unsigned_abs x) (unsigned_abs y) (2 ^ 31) (2 ^ 31) first second)
 
 rem_bound : (z : ℤ) → unsigned_abs (int_rem_euclid z (pos (2 ^ 32))) < 2 ^ 32
@@ -81,24 +79,8 @@ near_is (negsuc n) p =
     let same : 2 ^ 32 - suc n ≡ 2 ^ 32 - 1 - n % 2 ^ 32 = omega arith in
     record { number = ap signed same; bound = omega arith }
 
-abs_neg : (n : ℕ) → unsigned_abs (neg_ℤ (pos n)) ≤ n
-abs_neg zero = omega arith
-abs_neg (suc n) = omega arith
-
-abs_div : (a b : ℤ) → unsigned_abs (int_div a b) ≤ unsigned_abs a
-abs_div (pos a) (pos b) = div-le_self a b
-abs_div (pos a) (negsuc b) =
-    let less = div-le_self a (suc b) in
-    let neg = abs_neg (a / suc b) in
-    omega arith
-abs_div (negsuc a) (pos b) =
-    let less = div-le_self (suc a) b in
-    let neg = abs_neg (suc a / b) in
-    omega arith
-abs_div (negsuc a) (negsuc b) = div-le_self (suc a) (suc b)
-
 abs_of : (a : ℕ) (x : ℤ) → IsWordOf a x → unsigned_abs x ≤ 2 ^ 31
-abs_of a x p = subst (λ z. unsigned_abs z ≤ 2 ^ 31) p.number (abs_word a p.bound)
+abs_of a x p = subst (λ z. unsigned_abs z ≤ 2 ^ 31) p.number (abs_signed a p.bound)
 
 divided : (b : ℕ) → b ≢ 0 → nat_eq b 0 ≡ false
 divided b p = grind (arith, nat_tests)
@@ -152,9 +134,6 @@ high_and a b p q =
 fits_neg : (k : ℕ) → k ≤ 2 ^ 31 → fits_word (neg_ℤ (pos k)) ≡ true
 fits_neg zero p = refl
 fits_neg (suc k) p = grind (arith, nat_tests)
-
-not_negative : (m : ℕ) → int_lt (pos m) (pos 0) ≡ false
-not_negative m = grind (arith, nat_tests)
 
 none_of : (s t u : Bool) → s ≡ false → ((s && t) && u) ≡ false
 none_of s t u p = simp p refl

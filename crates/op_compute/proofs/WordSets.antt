@@ -10,8 +10,8 @@ use Rattle.std.specs.Int.Bits.{bit_and, or_zero_r}
 use Rattle.std.specs.Int.RustNames.{FitsSigned}
 use Rattle.std.specs.Ordering.{int_eq}
 use Rattle.std.specs.Prelude.{int_le}
+use Rattle.op_base.proofs.Tests.{twice_not}
 use Rattle.op_compute.proofs.WordBits.{and_is, complement_is, sign_none, sign_all, xor_ones}
-use Rattle.op_compute.proofs.WordParts.{twice}
 use Rattle.op_compute.proofs.WordProducts.{zero_test}
 use Rattle.op_compute.proofs.Words.{unsigned_is, small_is}
 use Rattle.op_compute.specs.Meaning.{IsWordOf}
@@ -222,7 +222,7 @@ behind_bits b i p q =
             | inl less ↦ ap (λ u. nat_eq (bit_at u i) 1) (behind_low b less) ∙ mask_bit (b + 1) i q
             | inr most ↦ ap (λ u. nat_eq (bit_at u i) 1) (behind_high b most positive) ∙ ap (λ t. nat_eq t 1) (bit_at-zero i) ∙ sym (not_behind b i most q)
           ]
-          ∙ twice (nat_le (b + 1) i)
+          ∙ twice_not (nat_le (b + 1) i)
           ∙ ap not (sym (below_low b i positive))
     ]
 
@@ -279,7 +279,7 @@ span_is a b x y p q =
     (λ i r.
     and_bit u (imm_of Xori v (negsuc 0)) i
     ∙ ap₂ (λ s t. s && t) (from_bits a i p.bound r ∙ ap (λ z. int_le z (pos i)) p.number)
-    (complement_bit v i bound_v r ∙ ap not (behind_bits b i q.bound r) ∙ sym (twice (int_le (pos i) (signed b))) ∙ ap (λ z. int_le (pos i) z) q.number))
+    (complement_bit v i bound_v r ∙ ap not (behind_bits b i q.bound r) ∙ sym (twice_not (int_le (pos i) (signed b))) ∙ ap (λ z. int_le (pos i) z) q.number))
 
 -- ---- whether an element is in a set
 

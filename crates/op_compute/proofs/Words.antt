@@ -9,6 +9,7 @@ use Rattle.op_compute.specs.Meaning.{IsWordOf, gives, computed}
 use Rattle.op_compute.specs.Straight.{alu_of, imm_of, takes}
 use Rattle.op_meaning.specs.Numbers.{fits_word, wrapped}
 use Rattle.op_meaning.specs.Sets.{truth}
+use Rattle.op_rv.proofs.Numbers.{signed_range}
 use Rattle.op_rv.specs.Operation.{signed}
 use Rattle.op_rv.specs.declared.instruction.AluOp.TheVariants.{Add, Sub, Slt}
 use Rattle.op_rv.specs.declared.instruction.BranchOp.TheVariants.{Beq, Bne}
@@ -37,9 +38,6 @@ signed_fits a p = grind (arith, ints)
 
 pub word_fits : (a : ℕ) (x : ℤ) → IsWordOf a x → fits_word x ≡ true
 word_fits a x p = ap fits_word (sym p.number) ∙ signed_fits a p.bound
-
-signed_range : (a : ℕ) → a < 2 ^ 32 → FitsSigned w32 (signed a)
-signed_range a p = search rules
 
 pub word_range : (a : ℕ) (x : ℤ) → IsWordOf a x → FitsSigned w32 x
 word_range a x p = subst (FitsSigned w32) p.number (signed_range a p.bound)

@@ -1,6 +1,7 @@
 -- The bytes of a first value, at an address, are the value.
 use Rattle.std.proofs.Common.{◌≡◌, ◌<◌, ℕ, zero, suc, ◌+◌, ◌-◌, ◌*◌, List, length, get_or, Some, slice_get, refl, sym, ap, ◌∙◌, subst, arith}
 use Rattle.std.specs.Prelude.{pos}
+use Rattle.op_core.proofs.Rows.{there_is}
 use Rattle.op_core.specs.Initial.{FirstValue, constant, parts, FirstValues, no_values, values}
 use Rattle.op_core.specs.Rows.{rows}
 use Rattle.op_core.specs.Sizes.{KeepsExtents, IsBehind, extent_by, extent_of, range_of, type_at, values_of}
@@ -25,7 +26,7 @@ use Rattle.op_constants.specs.Offsets.{size_in, offset_behind}
 use Rattle.op_constants.proofs.FieldOffsets.{element_within, field_within}
 use Rattle.op_constants.proofs.FirstRows.{part_byte, field_byte, element_byte, fitted-get, first-length}
 use Rattle.op_constants.proofs.Numbers.{number_lies, zero_there}
-use Rattle.op_constants.proofs.TypesArranged.{arranged_within, by_form, element_small, extent_kept, few, few_elements, field_small, many, none, size_is, some_at, type_is_arranged, whole}
+use Rattle.op_constants.proofs.TypesArranged.{arranged_within, by_form, element_small, extent_kept, few, few_elements, field_small, many, none, size_is, type_is_arranged, whole}
 use Rattle.op_constants.proofs.Zeros.{AreZeros, nothing_lies, zero_lies, zero-number}
 
 -- a constant as a number
@@ -150,7 +151,7 @@ module _ (core : Core) (keeps : KeepsExtents core) where
 
   parts_within : (n : ℕ) (of : TypeId) (memory : ℕ → ℕ) (a : ℕ) → of.0 < suc n → IsSmall core of → (vs : FirstValues) → AreThere memory a (size_in core of) (parts_bytes core (type_at core of) vs) → PartLies vs n (part_type core (type_at core of)) memory → Lies (arrangement_within (suc n) core of) (value_parts (count_first vs) (λ k. nth_first core (part_type core (type_at core of)) vs k)) memory a
   parts_within n of memory a low small vs =
-      let (t, e) = some_at core.types of.0 small.there in
+      let (t, e) = there_is core.types of.0 small.there in
       let is = arranged_within core keeps (suc n) of low small in
       subst (λ o. AreThere memory a (size_in core of) (parts_bytes core o vs) → PartLies vs n (part_type core o) memory → Lies (by_form core (arrangement_within n core) of o) (value_parts (count_first vs) (λ k. nth_first core (part_type core o) vs k)) memory a) (sym e)
       (parts_lie vs n of memory a low small t e (subst (λ o. Arranged core of (by_form core (arrangement_within n core) of o)) e is))

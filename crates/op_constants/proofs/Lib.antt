@@ -1,8 +1,10 @@
+pub mod Distinct
 pub mod FieldOffsets
 pub mod FirstLies
 pub mod FirstParts
 pub mod FirstRows
 pub mod Fitting
+pub mod Keeping
 pub mod Lying
 pub mod Numbers
 pub mod Reaching

@@ -1,8 +1,10 @@
 -- The paths of a program lead where its types say.
 use Rattle.std.proofs.Common.{◌≡◌, ◌<◌, ℕ, zero, suc, ◌+◌, ◌*◌, List, [], ◌∷◌, ◌++◌, length, Bool, true, false, Some, None, slice_get, unwrap_or, refl, sym, ap, ◌∙◌, subst, arith, inl, inr}
-use Rattle.std.specs.Prelude.{ℤ, ◌-ℤ◌, nat_abs, ◌⊎◌, int_le, ◌&&◌, if◌then◌else◌}
+use Rattle.std.specs.Prelude.{ℤ, ◌-ℤ◌, nat_abs, ◌⊎◌, int_le, if◌then◌else◌}
+use Rattle.std.proofs.lemmas.Bool.{and_parts}
 use Rattle.std.proofs.lemmas.Int.{ints}
 use Rattle.std.proofs.lemmas.List.{append_assoc, append-nil}
+use Rattle.op_core.proofs.Rows.{there_is}
 use Rattle.op_core.specs.Rows.{rows}
 use Rattle.op_core.specs.Sizes.{KeepsExtents, IsBehind, type_at, range_of, values_of}
 use Rattle.op_core.specs.declared.ids.Run.{Run}
@@ -20,7 +22,7 @@ use Rattle.op_constants.specs.Lies.{Arrangement, in_parts, Leads, arrangement_by
 use Rattle.op_constants.specs.Offsets.{size_in, offset_behind, field_offset, fields_in, element_size, element_size_by}
 use Rattle.op_constants.specs.Reaching.{Reaches, distance}
 use Rattle.op_constants.proofs.Lying.{leads_on}
-use Rattle.op_constants.proofs.TypesArranged.{all_at, by_form, many_rows, some_at}
+use Rattle.op_constants.proofs.TypesArranged.{all_at, by_form, many_rows}
 
 slice_cases : {A : Type 0} (xs : List A) (k : ℕ) → (slice_get xs k ≡ None) ⊎ (k < length xs)
 slice_cases [] k = inl refl
@@ -34,13 +36,9 @@ slice_cases (x ∷ xs) (suc k) = by (slice_cases xs k)
 not_both : false ≡ true → ⊥
 not_both e = subst (λ x. elim x as (λ y. Type 0) [ true ↦ ⊥ | false ↦ Unit {0} ]) e tt
 
-both : (a b : Bool) → (a && b) ≡ true → (a ≡ true) × (b ≡ true)
-both true b e = (refl, e)
-both false b e = absurd (not_both e)
-
 -- an index in its range counts as one of the elements
 index_low : (low high i : ℤ) → between low high i ≡ true → nat_abs (i -ℤ low) < nat_abs (high -ℤ low) + 1
-index_low low high i e = let (p, q) = both (int_le low i) (int_le i high) e in grind (arith, ints)
+index_low low high i e = let (p, q) = and_parts (int_le low i) (int_le i high) e in grind (arith, ints)
 
 some_same : {p q : Place} → Some p ≡ Some q → q ≡ p
 some_same {p} {q} e = sym (ap (λ o. unwrap_or o p) e)
@@ -56,7 +54,7 @@ module _ (core : Core) (keeps : KeepsExtents core) (first : slice_get core.types
       by : (slice_get (rows core.fields run) k ≡ None) ⊎ (k < length (rows core.fields run)) → ((part_type core (Some (Record run)) k).0 < of.0) ⊎ ((part_type core (Some (Record run)) k).0 ≡ 0)
       by (inl none) = inr (ap (λ o. (field_type o).0) none)
       by (inr low) =
-          let (f, is) = some_at (rows core.fields run) k low in
+          let (f, is) = there_is (rows core.fields run) k low in
           inl (subst (λ o. (field_type o).0 < of.0) (sym is) (all_at (λ f. f.of.0 < of.0) (rows core.fields run) k f low is behind.1))
   part_before of (Array index each) behind k = inl behind.1
   part_before of _ behind k = inr refl
@@ -65,7 +63,7 @@ module _ (core : Core) (keeps : KeepsExtents core) (first : slice_get core.types
   arrangement_same : (n m : ℕ) (of : TypeId) → of.0 < n → of.0 < m → of.0 < length core.types → arrangement_within n core of ≡ arrangement_within m core of
   arrangement_same zero m of low_n low_m low = absurd (omega arith)
   arrangement_same (suc n) zero of low_n low_m low = absurd (omega arith)
-  arrangement_same (suc n) (suc m) of low_n low_m low = by (λ part. arrangement_same n m part) of.0 refl (some_at core.types of.0 low)
+  arrangement_same (suc n) (suc m) of low_n low_m low = by (λ part. arrangement_same n m part) of.0 refl (there_is core.types of.0 low)
     where
       with_parts : (TypeId → Arrangement) → Shape → Arrangement
       with_parts inner s = arrangement_by inner core (size_in core of) (type_at core of) s
@@ -98,7 +96,7 @@ module _ (core : Core) (keeps : KeepsExtents core) (first : slice_get core.types
       let behind = keeps.behind of.0 (Record run) is in
       let many = many_rows core.fields run behind.0 in
       let inside : k < length (rows core.fields run) = omega arith in
-      let (f, at) = some_at (rows core.fields run) k inside in
+      let (f, at) = there_is (rows core.fields run) k inside in
       subst (λ o. (field_type o).0 < of.0) (sym at) (all_at (λ f. f.of.0 < of.0) (rows core.fields run) k f inside at behind.1)
 
   pub field_leads : (of : TypeId) (run : Run) (k : ℕ) → of.0 < length core.types → type_at core of ≡ Some (Record run) → k < run.count → Leads (arrangement_of core of) (k ∷ []) (arrangement_of core (part_type core (type_at core of) k)) (field_offset core of k)

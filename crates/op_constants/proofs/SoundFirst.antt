@@ -1,10 +1,12 @@
 -- The first values of sound programs are of their types.
 use Rattle.std.proofs.Common.{◌≡◌, ◌<◌, ◌≤◌, ℕ, zero, suc, ◌+◌, ◌-◌, ◌^◌, List, [], ◌∷◌, length, map, replicate, Bool, true, false, take, Option, Some, None, slice_get, refl, sym, ap, ◌∙◌, subst, arith}
 use Rattle.std.specs.Prelude.{ℤ, pos, negsuc, ◌≤ℤ◌, ◌-ℤ◌, Box, IsTrue, IsSomeAnd, IfSome}
+use Rattle.std.proofs.lemmas.Option.{none-some, slice_get_within}
 use Rattle.std.specs.Int.{w32, cast_signed}
 use Rattle.std.specs.List.{All}
 use Rattle.std.specs.declared.alloc.Global.{Global}
 use Rattle.std.proofs.lemmas.Int.{ints}
+use Rattle.op_core.proofs.Rows.{there_is}
 use Rattle.op_core.specs.Initial.{FirstValue, constant, parts, FirstValues, no_values, values, first_value_of}
 use Rattle.op_core.specs.Rows.{rows}
 use Rattle.op_core.specs.Sizes.{integer_range, range_of, type_at, values_of}
@@ -26,7 +28,7 @@ use Rattle.op_meaning.specs.Shapes.{Shape, single, composite, of_chars, of_eleme
 use Rattle.op_constants.specs.Arranged.{IsSmall}
 use Rattle.op_constants.specs.FirstBytes.{number_of_constant}
 use Rattle.op_constants.specs.FirstFits.{FirstFits, EachFits, NumberFits}
-use Rattle.op_constants.proofs.TypesArranged.{all_at, some_at}
+use Rattle.op_constants.proofs.TypesArranged.{all_at}
 
 not_both : false ≡ true → ⊥
 not_both e = subst (λ x. elim x as (λ y. Type 0) [ true ↦ ⊥ | false ↦ Unit {0} ]) e tt
@@ -117,14 +119,6 @@ module _ (core : Core) (types : (n : ℕ) (t : CoreType) → slice_get core.type
 
 -- ---- sound programs
 
-none_some : {A : Type 0} {x : A} → None ≡ Some x → ⊥
-none_some e = subst (λ o. elim o as (λ y. Type 0) [ None ↦ Unit {0} | Some x ↦ ⊥ ]) e tt
-
-some_below : {A : Type 0} (xs : List A) (k : ℕ) (x : A) → slice_get xs k ≡ Some x → k < length xs
-some_below [] k x e = absurd (none_some e)
-some_below (y ∷ xs) zero x e = omega arith
-some_below (y ∷ xs) (suc k) x e = let low = some_below xs k x e in omega arith
-
 first_of_list : (ts : List CoreType) → slice_get (take 16 ts) 0 ≡ slice_get ts 0
 first_of_list [] = refl
 first_of_list (t ∷ ts) = refl
@@ -135,14 +129,14 @@ module _ (core : Core) (sound : IsSound core) where
 
   pub small_type : (of : TypeId) → of.0 < length core.types → IsSmall core of
   small_type of low =
-      let (t, e) = some_at core.types of.0 low in
+      let (t, e) = there_is core.types of.0 low in
       let size = sound.sizes of.0 t e in
       record { there = low; size = omega arith }
 
   -- the first value of a variable is of its type, which is there
   pub row_fits : (n : ℕ) (v : Variable) (b : Box Initial Global) → slice_get core.variables n ≡ Some v → v.first_value ≡ Some b → IsSmall core v.of × FirstFits core v.of (first_value_of b.value)
-  row_fits n v b e some = by (type_at core v.of) refl (all_at (IsVariableRow core) core.variables n v (some_below core.variables n v e) e sound.variables)
+  row_fits n v b e some = by (type_at core v.of) refl (all_at (IsVariableRow core) core.variables n v (slice_get_within core.variables n v e) e sound.variables)
     where
       by : (o : Option CoreType) → type_at core v.of ≡ o → IsSomeAnd o (λ t. IfSome v.first_value (λ i. IsFirst core t v.of (first_value_of i.value))) → IsSmall core v.of × FirstFits core v.of (first_value_of b.value)
       by None is row = absurd row
-      by (Some t) is row = (small_type v.of (some_below core.types v.of.0 t is), first_fits core sound.types (first_value_of b.value) v.of (Some t) is (subst (λ o. IfSome o (λ i. IsFirst core t v.of (first_value_of i.value))) some row))
+      by (Some t) is row = (small_type v.of (slice_get_within core.types v.of.0 t is), first_fits core sound.types (first_value_of b.value) v.of (Some t) is (subst (λ o. IfSome o (λ i. IsFirst core t v.of (first_value_of i.value))) some row))

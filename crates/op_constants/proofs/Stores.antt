@@ -9,6 +9,7 @@ use Rattle.op_core.specs.Sizes.{integer_size}
 use Rattle.op_core.specs.declared.types.IntegerKind.{IntegerKind}
 use Rattle.op_core.specs.declared.types.IntegerKind.TheVariants.{Signed8, Unsigned8, Signed16, Unsigned16, Signed32}
 use Rattle.op_meaning.specs.Numbers.{low_bits_of}
+use Rattle.op_rv.proofs.Numbers.{signed_range}
 use Rattle.op_rv.specs.Operation.{signed, extended_byte, extended_half}
 use Rattle.op_rv.specs.State.{half_at, with_bytes}
 use Rattle.op_rv.specs.Step.{load_value, store_size_of}
@@ -23,7 +24,7 @@ is_low word = (word < 2147483648) ⊎ (2147483648 ≤ word)
 negative : (word : ℕ) → 2147483648 ≤ word → signed word ≡ negsuc (4294967296 - suc word)
 negative word high = let t : nat_lt word 2147483648 ≡ false = grind (arith, nat_tests) in ap (λ b. if b then pos word else negsuc (4294967296 - suc word)) t
 
-byte_fits : (n : ℕ) → n < 2 ^ 8 → FitsSigned w32 (cast_signed w8 n)
+pub byte_fits : (n : ℕ) → n < 2 ^ 8 → FitsSigned w32 (cast_signed w8 n)
 byte_fits n fits = by (cases_lt n 128)
   where
     by : (n < 128) ⊎ (128 ≤ n) → FitsSigned w32 (cast_signed w8 n)
@@ -33,7 +34,7 @@ byte_fits n fits = by (cases_lt n 128)
         let e : cast_signed w8 n ≡ negsuc (256 - suc n) = ap (λ b. if b then pos n else negsuc (256 - suc n)) t in
         subst (FitsSigned w32) (sym e) (record { sfits = omega arith })
 
-half_fits : (n : ℕ) → n < 2 ^ 16 → FitsSigned w32 (cast_signed w16 n)
+pub half_fits : (n : ℕ) → n < 2 ^ 16 → FitsSigned w32 (cast_signed w16 n)
 half_fits n fits = by (cases_lt n 32768)
   where
     by : (n < 32768) ⊎ (32768 ≤ n) → FitsSigned w32 (cast_signed w16 n)
@@ -42,13 +43,6 @@ half_fits n fits = by (cases_lt n 32768)
         let t : nat_lt n 32768 ≡ false = grind (arith, nat_tests) in
         let e : cast_signed w16 n ≡ negsuc (65536 - suc n) = ap (λ b. if b then pos n else negsuc (65536 - suc n)) t in
         subst (FitsSigned w32) (sym e) (record { sfits = omega arith })
-
-word_fits : (n : ℕ) → n < 2 ^ 32 → FitsSigned w32 (signed n)
-word_fits n fits = by (cases_lt n 2147483648)
-  where
-    by : is_low n → FitsSigned w32 (signed n)
-    by (inl low) = subst (FitsSigned w32) (sym (to_z_pos w32 n low)) (record { sfits = omega arith })
-    by (inr high) = subst (FitsSigned w32) (sym (negative n high)) (record { sfits = omega arith })
 
 -- ---- the rest of a word with a sign is the rest of the word
 
@@ -107,4 +101,4 @@ stored Signed16 memory a word fits =
     ap (λ h. signed (extended_half h)) (half_there memory a word) ∙ widened_half (word % 65536) (omega arith) ∙ sym (ap (λ z. cast_signed w16 (unsigned_abs z)) (rest_of_half word fits))
 stored Unsigned16 memory a word fits =
     ap signed (half_there memory a word) ∙ to_z_pos w32 (word % 65536) (omega arith) ∙ sym (rest_of_half word fits)
-stored Signed32 memory a word fits = ap signed (word_at-stored memory a word fits) ∙ sym (int_wrap_fits w32 (signed word) (word_fits word fits))
+stored Signed32 memory a word fits = ap signed (word_at-stored memory a word fits) ∙ sym (int_wrap_fits w32 (signed word) (signed_range word fits))

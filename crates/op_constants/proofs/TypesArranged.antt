@@ -1,7 +1,8 @@
 -- Every type of a program is arranged, if its values are small enough.
-use Rattle.std.proofs.Common.{◌≡◌, ◌<◌, ◌≤◌, ℕ, zero, suc, ◌+◌, ◌-◌, ◌*◌, ◌%◌, ◌^◌, Bool, true, false, List, [], ◌∷◌, length, length-take, length-drop, drop, Option, Some, slice_get, unwrap_or, refl, sym, ap, ◌∙◌, subst, arith, inl, inr}
+use Rattle.std.proofs.Common.{◌≡◌, ◌<◌, ◌≤◌, ℕ, zero, suc, ◌+◌, ◌-◌, ◌*◌, ◌%◌, ◌^◌, Bool, true, false, List, length, length-take, length-drop, drop, Option, Some, slice_get, unwrap_or, refl, sym, ap, ◌∙◌, subst, arith, inl, inr}
 use Rattle.std.specs.List.{All}
 use Rattle.std.proofs.lemmas.Option.{slice_get-get_or}
+use Rattle.op_core.proofs.Rows.{there_is}
 use Rattle.op_core.specs.Rows.{rows}
 use Rattle.op_core.specs.Sizes.{KeepsExtents, IsBehind, extent_by, plain, aligned, values_of, range_of, type_at, extent_of, integer_size}
 use Rattle.op_core.specs.declared.ids.Run.{Run}
@@ -21,11 +22,6 @@ use Rattle.op_constants.proofs.FieldOffsets.{all, field_extent, AreUnits, all_un
 use Rattle.op_constants.proofs.Units.{below_cap, at_least, aligned-of, coarser, none_of, sum_of, times_of}
 
 -- ---- rows
-
-pub some_at : {A : Type 0} (xs : List A) (k : ℕ) → k < length xs → (x : A) × (slice_get xs k ≡ Some x)
-some_at [] k low = absurd (omega arith)
-some_at (x ∷ xs) zero low = (x, refl)
-some_at (x ∷ xs) (suc k) low = some_at xs k (omega arith)
 
 pub all_at : {A : Type 0} (P : A → Type 0) (xs : List A) (k : ℕ) (x : A) → k < length xs → slice_get xs k ≡ Some x → All P xs → P x
 all_at P xs k x low e each = subst P (ap (λ o. unwrap_or o x) (sym (slice_get-get_or xs k x low) ∙ e)) (each k x low)
@@ -59,7 +55,7 @@ module _ (core : Core) (keeps : KeepsExtents core) where
     where
       each : AreUnits core (rows core.fields run)
       each k low =
-          let (f, is) = some_at (rows core.fields run) k low in
+          let (f, is) = there_is (rows core.fields run) k low in
           let before = all_at (λ f. f.of.0 < of.0) (rows core.fields run) k f low is behind.1 in
           subst (λ o. IsUnit (field_extent core o).alignment) (sym is) (parts f.of before)
   type_unit of (Array index element) low kept behind parts = subst IsUnit (sym (ap (λ x. x.alignment) kept)) (parts element behind.1)
@@ -72,7 +68,7 @@ module _ (core : Core) (keeps : KeepsExtents core) where
   unit_within : (n : ℕ) (of : TypeId) → of.0 < n → of.0 < length core.types → IsUnit (alignment_in core of)
   unit_within zero of few low = absurd (omega arith)
   unit_within (suc n) of few low =
-      let (t, e) = some_at core.types of.0 low in
+      let (t, e) = there_is core.types of.0 low in
       type_unit of t low (extent_kept of t e) (keeps.behind of.0 t e) (λ part before. unit_within n part (omega arith) (omega arith))
 
   pub unit_of : (of : TypeId) → of.0 < length core.types → IsUnit (alignment_in core of)
@@ -128,7 +124,7 @@ module _ (core : Core) (keeps : KeepsExtents core) where
     -- a field's type stands in front, and its values are small enough too
     pub field_small : (k : ℕ) → k < length fs → ((field_type (slice_get fs k)).0 < of.0) × IsSmall core (field_type (slice_get fs k))
     field_small k low =
-        let (f, is) = some_at fs k low in
+        let (f, is) = there_is fs k low in
         let within = (field_within core fs none k low few).1 in
         let f1 = few in
         let before = all_at (λ f. f.of.0 < of.0) fs k f low is behind.1 in
@@ -138,7 +134,7 @@ module _ (core : Core) (keeps : KeepsExtents core) where
 
     units : AreUnits core fs
     units k low =
-        let (f, is) = some_at fs k low in
+        let (f, is) = there_is fs k low in
         let before = all_at (λ f. f.of.0 < of.0) fs k f low is behind.1 in
         let there = small.there in
         subst (λ o. IsUnit (field_extent core o).alignment) (sym is) (unit_of f.of (omega arith))
@@ -266,7 +262,7 @@ module _ (core : Core) (keeps : KeepsExtents core) where
   pub arranged_within : (n : ℕ) (of : TypeId) → of.0 < n → IsSmall core of → Arranged core of (arrangement_within n core of)
   arranged_within zero of few small = absurd (omega arith)
   arranged_within (suc n) of few small =
-      let (t, e) = some_at core.types of.0 small.there in
+      let (t, e) = there_is core.types of.0 small.there in
       let all = type_arranged (arrangement_within n core) of t small (extent_kept of t e) (keeps.behind of.0 t e) (λ part before less. arranged_within n part (omega arith) less) in
       subst (λ o. Arranged core of (by_form core (arrangement_within n core) of o)) (sym e) all
 

@@ -1,5 +1,7 @@
 -- Zeros in memory are what variables begin with.
-use Rattle.std.proofs.Common.{◌≡◌, ◌<◌, ◌≤◌, ℕ, zero, suc, ◌+◌, refl, ap, ◌∙◌, arith}
+use Rattle.std.proofs.Common.{◌≡◌, ◌<◌, ◌≤◌, ℕ, zero, suc, ◌+◌, List, [], ◌∷◌, true, nat_eq, get_or, refl, ap, ◌∙◌, arith}
+use Rattle.std.proofs.lemmas.Bool.{and_parts}
+use Rattle.std.proofs.lemmas.Bool.Decides.{nat_tests}
 use Rattle.std.specs.Prelude.{pos}
 use Rattle.op_core.specs.Sizes.{type_at}
 use Rattle.op_core.specs.declared.ids.TypeId.{TypeId}
@@ -7,9 +9,16 @@ use Rattle.op_core.specs.declared.program.Core.{Core}
 use Rattle.op_core.specs.declared.types.IntegerKind.TheVariants.{Signed32}
 use Rattle.op_meaning.specs.Shapes.{Shape, single, composite, of_chars, of_elements, of_instance, part_type, shape_of, zero_by, zero_within}
 use Rattle.op_meaning.specs.Values.{number, number_in}
+use Rattle.op_constants.specs.FirstBytes.{are_zeros}
 use Rattle.op_constants.specs.Lies.{Arrangement, one_number, in_parts, bytes_in, IsArranged, Lies, arrangement_by, arrangement_within, part_offset}
 use Rattle.op_constants.specs.Offsets.{size_in}
 use Rattle.op_constants.proofs.Numbers.{zero_there}
+
+-- each of the bytes of a value that begins as zero
+pub zeros_read : (bytes : List ℕ) → are_zeros bytes ≡ true → (k : ℕ) → get_or bytes k 0 ≡ 0
+zeros_read [] none k = refl
+zeros_read (b ∷ bytes) none zero = let first = (and_parts (nat_eq b 0) (are_zeros bytes) none).0 in grind (arith, nat_tests, first)
+zeros_read (b ∷ bytes) none (suc k) = zeros_read bytes (and_parts (nat_eq b 0) (are_zeros bytes) none).1 k
 
 abbrev pub AreZeros : (ℕ → ℕ) → ℕ → ℕ → Type 0
 AreZeros memory a n = (x : ℕ) → x < n → memory (a + x) ≡ 0

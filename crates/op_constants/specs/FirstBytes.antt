@@ -1,7 +1,8 @@
 -- Which bytes a first value is in memory. (Free Pascal Reference Guide, "Initialized variables" and "Typed constants"; RISC-V
 -- Unprivileged ISA manual, "Load and Store Instructions": the lowest byte stands first.)
-use Rattle.std.specs.Prelude.{ℕ, ◌-◌, ℤ, pos, List, [], ◌∷◌, ◌++◌, length, take, replicate, Option, Some}
+use Rattle.std.specs.Prelude.{ℕ, ◌-◌, ℤ, pos, Bool, nat_eq, List, [], ◌∷◌, ◌++◌, length, take, replicate, Option, Some}
 use Rattle.std.specs.Int.{w32, bytes_low_first, cast_unsigned}
+use Rattle.std.specs.List.{list_all}
 use Rattle.op_core.specs.Initial.{FirstValue, constant, parts, FirstValues, no_values, values}
 use Rattle.op_core.specs.Sizes.{type_at, extent_of, integer_size}
 use Rattle.op_core.specs.declared.constant.Const.{Const}
@@ -67,6 +68,10 @@ abbrev mutual
   pub elements_bytes : Core → TypeId → FirstValues → List ℕ
   elements_bytes core element no_values = []
   elements_bytes core element (values v vs) = first_bytes core element v ++ elements_bytes core element vs
+
+-- a variable that begins with these bytes begins as zero
+abbrev pub are_zeros : List ℕ → Bool
+are_zeros bytes = list_all (λ b. nat_eq b 0) bytes
 
 -- those of a value that has parts, of a type of this form
 abbrev pub parts_bytes : Core → Option CoreType → FirstValues → List ℕ

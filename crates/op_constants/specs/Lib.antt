@@ -3,8 +3,10 @@ pub mod Facts
 pub mod FirstBytes
 pub mod FirstFits
 pub mod Fixed
+pub mod Keeping
 pub mod Lies
 pub mod Literals
 pub mod Offsets
 pub mod Reaching
 pub mod Shapes
+pub mod Texts

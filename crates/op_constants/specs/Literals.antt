@@ -1,5 +1,5 @@
--- The literals of a program in managed code, in the order of their numbers.
-use Rattle.std.specs.Prelude.{ℕ, suc, List, [], ◌∷◌, ◌++◌, length, Option, Some, None}
+-- The literals of a program in managed code: the different texts that its code takes. A literal's number is how many stand in front of it.
+use Rattle.std.specs.Prelude.{ℕ, suc, List, [], ◌∷◌, ◌++◌, length, Option, Some, None, if◌then◌else◌}
 use Rattle.std.specs.List.{flat_map}
 use Rattle.std.specs.Option.{option_map}
 use Rattle.op_core.specs.Initial.{FirstValue, first_value_of, parts, no_values}
@@ -15,7 +15,8 @@ use Rattle.op_mir.specs.declared.code.Routine.{Routine}
 use Rattle.op_mir.specs.declared.instruction.Instruction.{Instruction}
 use Rattle.op_mir.specs.declared.instruction.Instruction.TheVariants.{Act}
 use Rattle.op_constants.specs.Fixed.{fixed_literals}
-use Rattle.op_constants.specs.FirstBytes.{first_bytes}
+use Rattle.op_constants.specs.FirstBytes.{are_zeros, first_bytes}
+use Rattle.op_constants.specs.Texts.{distinct}
 
 abbrev first_or_none : Option FirstValue → FirstValue
 first_or_none None = parts no_values
@@ -25,9 +26,9 @@ abbrev pub first_of_row : Option Variable → FirstValue
 first_of_row None = parts no_values
 first_of_row (Some row) = first_or_none (option_map (λ i. first_value_of i.value) row.first_value)
 
--- a first value is a literal where it has parts
-abbrev first_literals : Shape → List ℕ → List (List ℕ)
-first_literals composite bytes = bytes ∷ []
+-- a first value is a literal where it has parts and does not begin as zero
+abbrev pub first_literals : Shape → List ℕ → List (List ℕ)
+first_literals composite bytes = if are_zeros bytes then [] else bytes ∷ []
 first_literals _ bytes = []
 
 -- of a routine with the number: what is written, what a Char is picked from, and what a variable begins with
@@ -41,10 +42,6 @@ abbrev pub instruction_literals : Core → ℕ → Instruction → List (List �
 instruction_literals core r (Act action landing) = action_literals core r action
 instruction_literals core r _ = []
 
--- how many literals an instruction takes
-abbrev pub literals_in : Core → ℕ → Instruction → ℕ
-literals_in core r i = length (instruction_literals core r i)
-
 abbrev pub block_literals : Core → ℕ → Block → List (List ℕ)
 block_literals core r block = flat_map (instruction_literals core r) block.code
 
@@ -56,6 +53,9 @@ abbrev pub routines_literals : Core → ℕ → List Routine → List (List ℕ)
 routines_literals core r [] = []
 routines_literals core r (x ∷ xs) = routine_literals core r x ++ routines_literals core (suc r) xs
 
--- the fixed ones, then those of the routines, then those of the program's own code, whose number is the next one
+-- the fixed ones, then those that the routines take, then those that the program's own code takes, whose number is the next one
+abbrev pub all_literals : Core → Mir → List (List ℕ)
+all_literals core mir = fixed_literals ++ routines_literals core 0 mir.routines ++ routine_literals core (length mir.routines) mir.program
+
 abbrev pub literals_of : Core → Mir → List (List ℕ)
-literals_of core mir = fixed_literals ++ routines_literals core 0 mir.routines ++ routine_literals core (length mir.routines) mir.program
+literals_of core mir = distinct (all_literals core mir)

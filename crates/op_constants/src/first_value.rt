@@ -6,12 +6,12 @@ ghost use Rattle.op_core.specs.Nodes.{first_values_of};
 ghost use Rattle.op_core.specs.Sizes.{type_at};
 ghost use Rattle.op_meaning.specs.Sets.{bits_below, set_of_elements};
 ghost use Rattle.op_meaning.specs.Shapes.{shape_of};
-ghost use Rattle.op_constants.specs.FirstBytes.{content, elements_bytes, fields_bytes, first_bytes, first_number, fitted, number_by, number_bytes, number_of_constant, parts_bytes};
+ghost use Rattle.op_constants.specs.FirstBytes.{are_zeros, content, elements_bytes, fields_bytes, first_bytes, first_number, fitted, number_by, number_bytes, number_of_constant, parts_bytes};
 
-use crate::shape::single_kind;
 use crate::size::{begin_behind, end_behind, size_of};
 use op_base::NoMemory;
 use op_core::{Const, Core, CoreType, Field, Initial, IntegerKind, TypeId, extent_of, type_at};
+use op_mir::single_kind;
 use std::alloc::Global;
 
 /// The bytes of a first value of the type in memory, as many as a value of the type takes.
@@ -26,6 +26,13 @@ pub fn first_bytes(
     let mut bytes = Vec::new(alloc);
     push_first(core, of, initial, &mut bytes)?;
     Ok(bytes)
+}
+
+/// Whether a variable that begins with these bytes begins as zero.
+pub fn are_zeros(bytes: &[u8]) -> bool
+    ensures { result ≡ are_zeros bytes.now }
+{
+    bytes.iter().all(|byte| *byte == 0)
 }
 
 /// A first value as one number; 0 where it is none.

@@ -27,9 +27,6 @@ pub const ERROR_202: LiteralId = LiteralId(5);
 /// The line of an arithmetic overflow.
 pub const ERROR_215: LiteralId = LiteralId(6);
 
-/// How many literals every program has. Those of its code have the numbers from this one on.
-pub const FIXED_LITERALS: u32 = 7;
-
 /// How many blanks the literal `BLANKS` has.
 pub const MOST_BLANKS: u32 = 64;
 

@@ -1,155 +1,130 @@
-//! The literals of a program in managed code, and how they become its constants.
-ghost use Rattle.std.specs.Prelude.{◌≡◌, ◌++◌, [], ◌∷◌, IfOk, OnOk, ◌+◌, length, slice_get};
+//! The literals of a program in managed code.
+ghost use Rattle.std.specs.Prelude.{◌≡◌, [], IfOk, OnOk, ◌+◌, slice_get};
 ghost use Rattle.std.specs.Option.{option_copied};
-ghost use Rattle.op_layout.specs.Places.{layout_of};
 ghost use Rattle.op_meaning.specs.Shapes.{type_of_local, variables_of};
 ghost use Rattle.op_mir.specs.declared.action.Action.TheVariants.{BeginWith};
 ghost use Rattle.op_constants.specs.FirstBytes.{first_bytes};
-ghost use Rattle.op_constants.specs.Literals.{action_literals, block_literals, first_of_row, instruction_literals, literals_in, literals_of, routine_literals};
+ghost use Rattle.op_constants.specs.Keeping.{with_block, with_instruction, with_routine, with_text, with_texts};
+ghost use Rattle.op_constants.specs.Literals.{action_literals, first_of_row, literals_of};
 
-use crate::first_value::{first_bytes, zeros};
+use crate::first_value::{are_zeros, first_bytes, zeros};
 use crate::fixed::fixed_literals;
-use crate::shape::is_composite;
+use crate::texts::Texts;
 use op_base::{NoMemory, Text};
 use op_core::{Core, RoutineId, TypeId, Variable};
-use op_layout::Layout;
-use op_mir::{Action, Block, Instruction, LocalId, Mir, Routine};
+use op_mir::{Action, Block, Instruction, LocalId, Mir, Routine, is_composite};
 use std::alloc::Global;
 
-/// The constants of a program: its literals in the order of their numbers, and nothing else.
-pub fn layout(alloc: Global, core: &Core, mir: &Mir) -> Result<Layout, NoMemory>
-    ensures { IfOk result (λ layout. layout ≡ layout_of (literals_of core.now mir.now)) }
+/// The literals of a program: those that every program has, and the different texts that its code takes besides.
+pub fn literals_of(alloc: Global, core: &Core, mir: &Mir) -> Result<Texts, NoMemory>
+    ensures { IfOk result (λ texts. texts ≡ literals_of core.now mir.now) }
 {
-    let mut literals = fixed_literals(alloc)?;
+    let mut texts = Texts::new(alloc);
+    keep_all(&mut texts, fixed_literals(alloc)?)?;
     let mut routine = RoutineId(0);
     for code in mir.routines.as_slice() {
-        push_routine(alloc, core, routine, code, &mut literals)?;
+        keep_routine(alloc, core, routine, code, &mut texts)?;
         routine = RoutineId(routine.0.checked_add(1).ok_or(NoMemory)?);
     }
-    push_routine(alloc, core, routine, &mir.program, &mut literals)?;
-    Layout::of_literals(alloc, &literals)
+    keep_routine(alloc, core, routine, &mir.program, &mut texts)?;
+    Ok(texts)
 }
 
-/// How many literals an instruction takes, 0 or 1, in the routine with the number. The number of the program's own code is the one
-/// behind those of all routines.
-pub fn literals_in(core: &Core, routine: RoutineId, instruction: &Instruction) -> u32
-    ensures { result ≡ literals_in core.now routine.0 instruction.now }
+fn keep_all(texts: &mut Texts, literals: Vec<Text>) -> Result<(), NoMemory>
+    ensures { OnOk result (texts.new ≡ with_texts texts.old literals.items) }
 {
-    match instruction {
-        Instruction::Act { action, .. } => literals_of_action(core, routine, action),
-        _ => 0,
+    for literal in literals.as_slice() {
+        texts.keep(literal.as_slice())?;
     }
+    Ok(())
 }
 
-fn literals_of_action(core: &Core, routine: RoutineId, action: &Action) -> u32
-    ensures { result ≡ length (action_literals core.now routine.0 action.now) }
-{
-    match action {
-        Action::WriteText { .. } => 1,
-        Action::Pick { .. } => 1,
-        Action::BeginWith { variable } => {
-            if is_composite(core, type_of_local(core, routine, *variable)) {
-                1
-            } else {
-                0
-            }
-        }
-        _ => 0,
-    }
-}
-
-fn push_routine(
+/// What the code of a routine takes. The number of the program's own code is the one behind those of all routines.
+fn keep_routine(
     alloc: Global,
     core: &Core,
     routine: RoutineId,
     code: &Routine,
-    literals: &mut Vec<Text>,
+    texts: &mut Texts,
 ) -> Result<(), NoMemory>
-    ensures { OnOk result (literals.new.items ≡ literals.old.items ++ routine_literals core.now routine.0 code.now) }
+    ensures { OnOk result (texts.new ≡ with_routine core.now routine.0 texts.old code.now) }
 {
     for block in code.blocks.as_slice() {
-        push_block(alloc, core, routine, block, literals)?;
+        keep_block(alloc, core, routine, block, texts)?;
     }
     Ok(())
 }
 
-fn push_block(
+fn keep_block(
     alloc: Global,
     core: &Core,
     routine: RoutineId,
     block: &Block,
-    literals: &mut Vec<Text>,
+    texts: &mut Texts,
 ) -> Result<(), NoMemory>
-    ensures { OnOk result (literals.new.items ≡ literals.old.items ++ block_literals core.now routine.0 block.now) }
+    ensures { OnOk result (texts.new ≡ with_block core.now routine.0 texts.old block.now) }
 {
     for instruction in block.code.as_slice() {
-        push_instruction(alloc, core, routine, instruction, literals)?;
+        keep_instruction(alloc, core, routine, instruction, texts)?;
     }
     Ok(())
 }
 
-fn push_instruction(
+fn keep_instruction(
     alloc: Global,
     core: &Core,
     routine: RoutineId,
     instruction: &Instruction,
-    literals: &mut Vec<Text>,
+    texts: &mut Texts,
 ) -> Result<(), NoMemory>
-    ensures { OnOk result (literals.new.items ≡ literals.old.items ++ instruction_literals core.now routine.0 instruction.now) }
+    ensures { OnOk result (texts.new ≡ with_instruction core.now routine.0 texts.old instruction.now) }
 {
     match instruction {
-        Instruction::Act { action, .. } => push_action(alloc, core, routine, action, literals),
+        Instruction::Act { action, .. } => keep_action(alloc, core, routine, action, texts),
         _ => Ok(()),
     }
 }
 
-fn push_action(
+fn keep_action(
     alloc: Global,
     core: &Core,
     routine: RoutineId,
     action: &Action,
-    literals: &mut Vec<Text>,
+    texts: &mut Texts,
 ) -> Result<(), NoMemory>
-    ensures { OnOk result (literals.new.items ≡ literals.old.items ++ action_literals core.now routine.0 action.now) }
+    ensures { OnOk result (texts.new ≡ with_texts texts.old (action_literals core.now routine.0 action.now)) }
 {
     match action {
-        Action::WriteText { text, .. } => push_text(alloc, text, literals),
-        Action::Pick { text, .. } => push_text(alloc, text, literals),
-        Action::BeginWith { variable } => push_first_value(
-            alloc, core, routine, *variable, literals,
-        ),
+        Action::WriteText { text, .. } => texts.keep(text.as_slice()),
+        Action::Pick { text, .. } => texts.keep(text.as_slice()),
+        Action::BeginWith { variable } => keep_first_value(alloc, core, routine, *variable, texts),
         _ => Ok(()),
     }
 }
 
-fn push_text(alloc: Global, text: &Text, literals: &mut Vec<Text>) -> Result<(), NoMemory>
-    ensures { OnOk result (literals.new.items ≡ literals.old.items ++ text.now ∷ []) }
-{
-    literals.push(Text::copy_of(alloc, text.as_slice())?)?;
-    Ok(())
-}
-
-/// What a variable begins with, where it has parts.
-fn push_first_value(
+/// What a variable begins with, where it has parts and does not begin as zero.
+fn keep_first_value(
     alloc: Global,
     core: &Core,
     routine: RoutineId,
     variable: LocalId,
-    literals: &mut Vec<Text>,
+    texts: &mut Texts,
 ) -> Result<(), NoMemory>
-    ensures { OnOk result (literals.new.items ≡ literals.old.items ++ action_literals core.now routine.0 (BeginWith variable)) }
+    ensures { OnOk result (texts.new ≡ with_texts texts.old (action_literals core.now routine.0 (BeginWith variable))) }
 {
     let of = type_of_local(core, routine, variable);
     if !is_composite(core, of) {
         return Ok(());
     }
     let bytes = bytes_of_row(alloc, core, of, row_of_local(core, routine, variable))?;
-    literals.push(Text::from(bytes))?;
-    Ok(())
+    if are_zeros(&bytes) {
+        return Ok(());
+    }
+    texts.keep(&bytes)
 }
 
 /// The bytes with which a variable of the type begins; zeros where its row has no first value.
-fn bytes_of_row(
+pub fn bytes_of_row(
     alloc: Global,
     core: &Core,
     of: TypeId,

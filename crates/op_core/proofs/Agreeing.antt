@@ -1,5 +1,6 @@
 -- Checked parts agree with relations where their parts do.
 use Rattle.std.proofs.Common.{◌≡◌, ◌⊎◌, inl, inr, Option, Some, None, refl, ap, subst, ◌∙◌}
+use Rattle.std.proofs.lemmas.Option.{none-some}
 use Rattle.std.specs.Option.{option_map}
 use Rattle.op_base.specs.declared.rule.Refusal.{Refusal}
 use Rattle.op_core.specs.Faults.{Checked, Faults, FirstIs, IsIn, after, behind, both, front, here, none, one}
@@ -9,9 +10,6 @@ use Rattle.op_core.specs.Relations.{Agrees, Either, Entry, Holds, IsFirstOf, Lis
 
 pub some_is : {A : Type 0} {a b : A} → Some a ≡ Some b → a ≡ b
 some_is e = cc
-
-pub none_is : {A : Type 0} {a : A} → None ≡ Some a → ⊥
-none_is e = absurd (cc)
 
 pub holds_some : {A : Type 0} (x : A) → Holds (Some x) (Only x)
 holds_some x a = (some_is, ap Some)
@@ -64,7 +62,7 @@ pub agrees_standing : {A : Type 0} {o : Option A} {T : A → Type 0} → Holds o
 agrees_standing {A} {o} {T} h = (h, lists_none)
 
 pub holds_map : {A B : Type 0} {f : A → B} {o : Option A} {T : A → Type 0} → Holds o T → Holds (option_map f o) (Through T (λ a. Only (f a)))
-holds_map {A} {B} {f} {o = None} {T} h b = (λ e. absurd (none_is e), λ s. absurd (none_is ((h s.0).1 s.1)))
+holds_map {A} {B} {f} {o = None} {T} h b = (λ e. absurd (none-some _ e), λ s. absurd (none-some _ ((h s.0).1 s.1)))
 holds_map {A} {B} {f} {o = Some x} {T} h b = (λ e. (x, (h x).0 refl, some_is e), λ s. ap (λ a. Some (f a)) (some_is ((h s.0).1 s.1)) ∙ ap Some s.2)
 
 pub agrees_changed : {A B : Type 0} {f : A → B} {c : Checked A} {T : A → Type 0} {P : Refusal → Type 0} → Agrees c T P → Agrees (record { typed = option_map f c.typed; faults = c.faults }) (Through T (λ a. Only (f a))) P

@@ -5,8 +5,9 @@ use Rattle.std.proofs.lemmas.List.{drop-append-le, take-append-le}
 use Rattle.std.proofs.lemmas.List.Elements.{All-get_or}
 use Rattle.std.proofs.lemmas.Option.{get_or_from_slice_get, slice_get_within}
 use Rattle.std.specs.List.{All}
+use Rattle.op_base.proofs.Lists.{stays_front}
 use Rattle.op_core.proofs.Agreeing.{either_by, some_is}
-use Rattle.op_core.proofs.OneType.{kind_is, kind_itself, one_grows, parameters_grow, parameters_themselves, parameters_through, result_grows, result_itself, result_through, stays_front}
+use Rattle.op_core.proofs.OneType.{kind_is, kind_itself, one_grows, parameters_grow, parameters_themselves, parameters_through, result_grows, result_itself, result_through}
 use Rattle.op_core.specs.Growing.{Grows, IsFrontOf, SameRoutine, SameVariable, Stay}
 use Rattle.op_core.specs.Heading.{is_same_heading, same_parameters, same_result}
 use Rattle.op_core.specs.Members.{There}

@@ -1,5 +1,5 @@
 -- What a row of a typed tree's parts says is what the parts of its list say.
-use Rattle.std.proofs.Common.{◌≡◌, List, [], ◌∷◌, ◌++◌, refl, ap, sym, ◌∙◌}
+use Rattle.std.proofs.Common.{◌≡◌, ◌<◌, ℕ, suc, ◌+◌, List, [], ◌∷◌, ◌++◌, length, get_or, drop, drop-cons, add-one, refl, ap, sym, ◌∙◌, ap₂}
 use Rattle.std.specs.Prelude.{Vec}
 use mathlib.Core.Former.{Count}
 use Rattle.op_core.specs.Expression.{expression, call, construct, set, steps, method, elements, arguments, listed, expressions, expr_of, root_of, action_of, element_of, argument_of, step_row, element_row, argument_row, expr_row, behind, then}
@@ -126,9 +126,6 @@ by_statements row ss e = stmt_list row.0 row.1 ∙ ap stmts_of e
 by_handlers : (row : (n : Count) × Row_of-CoreHandler n) (hs : Vec CoreHandler Global) → items-the_row-CoreHandler row.0 row.1 ≡ hs.items → handler_row row.1 ≡ handlers_of hs.items
 by_handlers row hs e = handler_list row.0 row.1 ∙ ap handlers_of e
 
-both : {A B C : Type 0} (f : A → B → C) {a a' : A} {b b' : B} → a ≡ a' → b ≡ b' → f a b ≡ f a' b'
-both f {a} {a'} {b} {b'} p q = ap (λ x. f x b) p ∙ ap (f a') q
-
 expr_says : (e : CoreExpr) → expr_of e ≡ expression (root_of (out-CoreExpr e).root) (out-CoreExpr e).of (steps_of (out-CoreExpr e).steps.items)
 unfolding out-CoreExpr denote.Hole.Carrier.out
 expr_says (CoreExpr' root of shape row) = ap (expression (root_of root) of) (step_list _ row ∙ ap steps_of (sym (items_shown-the_row-Step-3 shape row)))
@@ -136,6 +133,10 @@ expr_says (CoreExpr' root of shape row) = ap (expression (root_of root) of) (ste
 pub expr_made : (root : RustRoot) (of : TypeId) (v : Vec Step Global) → expr_of (roll-CoreExpr (record { root = root; of = of; steps = v })) ≡ expression (root_of root) of (steps_of v.items)
 unfolding roll-CoreExpr hidden-the_row-Step-3 denote.Hole.Carrier.roll
 expr_made root of v = ap (expression (root_of root) of) (let row = steps_in (roll-CoreExpr (record { root = root; of = of; steps = v })) in step_list row.0 row.1 ∙ ap steps_of (items_hidden-the_row-Step-3 v))
+
+-- the step with this number, and those behind it
+pub next_step : (list : List Step) (k : ℕ) (x : Step) → k < length list → x ≡ get_or list k x → steps_of (drop k list) ≡ steps (action_of x.action) x.of (steps_of (drop (k + 1) list))
+next_step list k x h e = rw add-one (ap steps_of (drop-cons list k x h) ∙ ap (λ y. steps (action_of y.action) y.of (steps_of (drop (suc k) list))) (sym e))
 
 steps_more : (xs : List Step) (action : Action) (of : TypeId) → behind (steps_of xs) (action_of action) of ≡ steps_of (xs ++ record { action = action; of = of } ∷ [])
 steps_more [] action of = refl
@@ -159,11 +160,11 @@ list_nodes = record {
   listed_says = λ of es. ap (listed of) (let row = listed_in (Listed of es) in expr_list row.0 row.1 ∙ ap expressions_of (items_hidden-the_row-CoreExpr-1 es));
   parts_says = λ vs. ap parts (let row = parts_in (Parts vs) in initial_list row.0 row.1 ∙ ap first_values_of (items_hidden-the_row-Initial-0 vs));
   block_says = λ ss. ap block (by_statements (first_in (Block ss)) ss (items_hidden-the_row-CoreStmt-0 ss));
-  case_says = λ e bs ss. both (case_of (expr_of e.value)) (let row = branches_in (Case e bs ss) in branch_list row.0 row.1 ∙ ap branches_of (items_hidden-the_row-CoreBranch-1 bs)) (by_statements (first_in (Case e bs ss)) ss (items_hidden-the_row-CoreStmt-0 ss));
+  case_says = λ e bs ss. ap₂ (case_of (expr_of e.value)) (let row = branches_in (Case e bs ss) in branch_list row.0 row.1 ∙ ap branches_of (items_hidden-the_row-CoreBranch-1 bs)) (by_statements (first_in (Case e bs ss)) ss (items_hidden-the_row-CoreStmt-0 ss));
   repeat_says = λ ss e. ap (λ x. repeat_until x (expr_of e.value)) (by_statements (first_in (Repeat ss e)) ss (items_hidden-the_row-CoreStmt-0 ss));
-  finally_says = λ ss ts. both try_finally (by_statements (first_in (TryFinally ss ts)) ss (items_hidden-the_row-CoreStmt-0 ss)) (by_statements (second_in (TryFinally ss ts)) ts (items_hidden-the_row-CoreStmt-0 ts));
-  on_says = λ ss hs. both try_on (by_statements (first_in (TryOn ss hs)) ss (items_hidden-the_row-CoreStmt-0 ss)) (by_handlers (handlers_in (TryOn ss hs)) hs (items_hidden-the_row-CoreHandler-2 hs));
+  finally_says = λ ss ts. ap₂ try_finally (by_statements (first_in (TryFinally ss ts)) ss (items_hidden-the_row-CoreStmt-0 ss)) (by_statements (second_in (TryFinally ss ts)) ts (items_hidden-the_row-CoreStmt-0 ts));
+  on_says = λ ss hs. ap₂ try_on (by_statements (first_in (TryOn ss hs)) ss (items_hidden-the_row-CoreStmt-0 ss)) (by_handlers (handlers_in (TryOn ss hs)) hs (items_hidden-the_row-CoreHandler-2 hs));
   else_says = λ ss hs ts.
       ap (λ x. try_on_else x (handler_row (handlers_in (TryOnElse ss hs ts)).1) (stmt_row (second_in (TryOnElse ss hs ts)).1)) (by_statements (first_in (TryOnElse ss hs ts)) ss (items_hidden-the_row-CoreStmt-0 ss))
-      ∙ both (try_on_else (stmts_of ss.items)) (by_handlers (handlers_in (TryOnElse ss hs ts)) hs (items_hidden-the_row-CoreHandler-2 hs)) (by_statements (second_in (TryOnElse ss hs ts)) ts (items_hidden-the_row-CoreStmt-0 ts));
+      ∙ ap₂ (try_on_else (stmts_of ss.items)) (by_handlers (handlers_in (TryOnElse ss hs ts)) hs (items_hidden-the_row-CoreHandler-2 hs)) (by_statements (second_in (TryOnElse ss hs ts)) ts (items_hidden-the_row-CoreStmt-0 ts));
 }

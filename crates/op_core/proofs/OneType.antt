@@ -1,6 +1,7 @@
 -- Types that are one: each with itself, both ways, over a third, and while the table of types grows.
-use Rattle.std.proofs.Common.{◌≡◌, inl, inr, ◌⊎◌, ℕ, zero, suc, ◌≤◌, Bool, true, false, ◌||◌, List, [], ◌∷◌, ◌++◌, length, nat_eq, slice_get, IsTrue, Option, Some, None, refl, sym, ap, subst, length-append, arith}
+use Rattle.std.proofs.Common.{◌≡◌, inl, inr, ◌⊎◌, ℕ, suc, ◌≤◌, Bool, true, false, ◌||◌, List, [], ◌∷◌, ◌++◌, length, nat_eq, slice_get, IsTrue, Option, Some, None, refl, sym, ap, subst, length-append, arith}
 use Rattle.std.proofs.lemmas.Bool.{and_from, and_parts, eqb-true, eq-eqb, false≢true, or_cases}
+use Rattle.op_base.proofs.Lists.{stays_front}
 use Rattle.op_core.specs.Heading.{same_kind, same_mode, same_parameter, same_parameters, same_result}
 use Rattle.op_core.specs.Types.{are_one, elements, is_one_type, true_of}
 use Rattle.op_core.specs.Typing.{element_of}
@@ -33,7 +34,7 @@ of_arrays : (f : TypeId → TypeId → Bool) {o p : Option CoreType} {x y : Type
 of_arrays f dynamic e = e
 of_arrays f without_bounds e = e
 
-by_number : (a b : TypeId) → nat_eq a.0 b.0 ≡ true → a ≡ b
+pub by_number : (a b : TypeId) → nat_eq a.0 b.0 ≡ true → a ≡ b
 by_number a b e = ap (λ n. record { 0 = n }) (eqb-true a.0 b.0 e)
 
 or_right : (x : Bool) {y : Bool} → y ≡ true → (x || y) ≡ true
@@ -59,11 +60,6 @@ kept f g (without_bounds {a = a} {b = b}) = at (f (OpenArray a) refl) (g (OpenAr
 inner : {o p : Option CoreType} {x y z : TypeId} → Arrays o p x y → element_of o ≡ Some z → (x ≡ z) × (element_of p ≡ Some y)
 inner (dynamic) e = (cc, refl)
 inner (without_bounds) e = (cc, refl)
-
-pub stays_front : {A : Type 0} (old more : List A) (n : ℕ) (a : A) → slice_get old n ≡ Some a → slice_get (old ++ more) n ≡ Some a
-stays_front [] more n a e = absurd (cc)
-stays_front (x ∷ xs) more zero a e = e
-stays_front (x ∷ xs) more (suc n) a e = stays_front xs more n a e
 
 are_of : (steps types : List CoreType) (a b : TypeId) → are_one steps types a b ≡ true → Are types (length steps) a b
 are_of [] types a b e = same (by_number a b e)

@@ -1,8 +1,8 @@
 -- Instructions of typed code are those that the agreement asks for: their operands are there, at the types that they are used at.
-use Rattle.std.proofs.Common.{◌≡◌, ◌≤◌, ◌<◌, ℕ, zero, suc, List, [], ◌∷◌, length, refl, sym, ap, ap₂, subst, arith}
-use Rattle.std.specs.Prelude.{Bool, true, false, ◌&&◌, map, max, nat_lt, slice_get}
+use Rattle.std.proofs.Common.{◌≡◌, ◌≤◌, ◌<◌, ℕ, zero, suc, List, [], ◌∷◌, length, refl, sym, ap, subst, arith}
+use Rattle.std.specs.Prelude.{true, false, ◌&&◌, map, max, nat_lt, slice_get}
+use Rattle.std.proofs.lemmas.Bool.{and_from, lt-ltb}
 use Rattle.std.specs.List.{All, list_all}
-use Rattle.std.proofs.lemmas.Bool.Decides.{nat_tests}
 use Rattle.std.proofs.lemmas.List.Elements.{All-head, All-tail}
 use Rattle.std.proofs.lemmas.Option.{slice_get_within}
 use Rattle.op_constants.specs.Arranged.{IsSmall}
@@ -77,50 +77,44 @@ module _ (core : Core) (sound : IsSound core) (r : ℕ) where
 
 -- ---- what is named is there
 
-pub both : (a b : Bool) → a ≡ true → b ≡ true → (a && b) ≡ true
-both a b e f = ap₂ (λ x y. x && y) e f
-
-below : (a b : ℕ) → a < b → nat_lt a b ≡ true
-below a b less = grind (arith, nat_tests, less)
-
 module _ (core : Core) (sound : IsSound core) (mir : Mir) (r : ℕ) (x : Routine) (types : mir.counts.types ≡ length core.types) (variables : mir.counts.variables ≡ length core.variables) (locals : x.locals ≡ (variables_of core r).count) where
   pub has_it : (t : TemporaryId) → up_to t ≤ x.temporaries → has x t ≡ true
-  has_it t low = below t.0 x.temporaries (omega arith)
+  has_it t low = lt-ltb t.0 x.temporaries (omega arith)
 
   two_there : (a b : TemporaryId) → max (up_to a) (up_to b) ≤ x.temporaries → has_two x a b ≡ true
-  two_there a b low = both (has x a) (has x b) (has_it a (omega arith)) (has_it b (omega arith))
+  two_there a b low = and_from (has x a) (has x b) (has_it a (omega arith)) (has_it b (omega arith))
 
   three_there : (a b c : TemporaryId) → max (up_to a) (max (up_to b) (up_to c)) ≤ x.temporaries → has_three x a b c ≡ true
-  three_there a b c low = both (has_two x a b) (has x c) (two_there a b (omega arith)) (has_it c (omega arith))
+  three_there a b c low = and_from (has_two x a b) (has x c) (two_there a b (omega arith)) (has_it c (omega arith))
 
   pub type_there : (of : TypeId) → IsSmall core of → nat_lt of.0 mir.counts.types ≡ true
-  type_there of small = let there = small.there in below of.0 mir.counts.types (omega arith)
+  type_there of small = let there = small.there in lt-ltb of.0 mir.counts.types (omega arith)
 
   root_there : (root : Root) (of : TypeId) → TypedRoot core r (view_root root) of → IsSmall core of → root_fits mir x root ≡ true
   unfolding root_fits
   root_there (Global v) of (listed, there) small =
       let (row, is, of_is) = some_and (slice_get core.variables v.0) (λ y. y.of ≡ of) there in
       let low = slice_get_within core.variables v.0 row is in
-      below v.0 mir.counts.variables (omega arith)
-  root_there (Local v) of (low, there) small = below v.0 x.locals (omega arith)
-  root_there (Through v) of (low, (count, there)) small = below v.0 x.locals (omega arith)
+      lt-ltb v.0 mir.counts.variables (omega arith)
+  root_there (Local v) of (low, there) small = lt-ltb v.0 x.locals (omega arith)
+  root_there (Through v) of (low, (count, there)) small = lt-ltb v.0 x.locals (omega arith)
   root_there (Temporary type n) of same small = subst (λ y. nat_lt y.0 mir.counts.types ≡ true) (sym same) (type_there of small)
 
   steps_there : (steps : List Step) (of to : TypeId) → Reaches core of (map view_step steps) to → AreSmall core of (map view_step steps) → Every (λ s. in_step s ≤ x.temporaries) steps → list_all (step_fits mir x) steps ≡ true
   unfolding step_fits
   steps_there [] of to reaches small low = refl
   steps_there (Field whole n ∷ steps) of to (same, run, is, few, reaches) (first, small) (low, lows) =
-      both (step_fits mir x (Field whole n)) (list_all (step_fits mir x) steps) (subst (λ y. nat_lt y.0 mir.counts.types ≡ true) (sym same) (type_there of first))
+      and_from (step_fits mir x (Field whole n)) (list_all (step_fits mir x) steps) (subst (λ y. nat_lt y.0 mir.counts.types ≡ true) (sym same) (type_there of first))
       (steps_there steps (part_type core (type_at core of) n) to reaches small lows)
   steps_there (Element whole least most t ∷ steps) of to (same, index, each, is, range, reaches) (first, small) (low, lows) =
-      both (step_fits mir x (Element whole least most t)) (list_all (step_fits mir x) steps)
-      (both (nat_lt whole.0 mir.counts.types) (has x t) (subst (λ y. nat_lt y.0 mir.counts.types ≡ true) (sym same) (type_there of first)) (has_it t low))
+      and_from (step_fits mir x (Element whole least most t)) (list_all (step_fits mir x) steps)
+      (and_from (nat_lt whole.0 mir.counts.types) (has x t) (subst (λ y. nat_lt y.0 mir.counts.types ≡ true) (sym same) (type_there of first)) (has_it t low))
       (steps_there steps each to reaches (subst (λ y. AreSmall core y (map view_step steps)) (ap (λ o. part_type core o 0) is) small) lows)
 
   pub path_there : (path : Path) (of : TypeId) → TypedPath core r (view_path path) of → in_path path ≤ x.temporaries → path_fits mir x path ≡ true
   unfolding path_fits
   path_there path of typed low =
-      both (root_fits mir x path.root) (list_all (step_fits mir x) path.steps) (root_there path.root typed.from typed.root typed.whole)
+      and_from (root_fits mir x path.root) (list_all (step_fits mir x) path.steps) (root_there path.root typed.from typed.root typed.whole)
       (steps_there path.steps typed.from of typed.reaches (small_steps core sound typed.from of (map view_step path.steps) typed.whole typed.reaches) (most_each in_step path.steps x.temporaries low))
 
   -- ---- actions
@@ -152,7 +146,7 @@ module _ (core : Core) (sound : IsSound core) (mir : Mir) (r : ℕ) (x : Routine
 
   move_there : (t : TemporaryId) (path : Path) (of : TypeId) → TypedPath core r (view_path path) of → max (up_to t) (in_path path) ≤ x.temporaries → load_fits mir x t path ≡ true
   unfolding load_fits
-  move_there t path of typed low = both (has x t) (path_fits mir x path) (has_it t (omega arith)) (path_there path of typed (omega arith))
+  move_there t path of typed low = and_from (has x t) (path_fits mir x path) (has_it t (omega arith)) (path_there path of typed (omega arith))
 
   pub action_there : (a : Action) → TypedAction core r (view_action core r a) → in_action a ≤ x.temporaries → action_fits mir x a ≡ true
   unfolding action_fits in_action copy_fits
@@ -160,10 +154,10 @@ module _ (core : Core) (sound : IsSound core) (mir : Mir) (r : ℕ) (x : Routine
   action_there (Load to kind from) (of, path, single') low = move_there to from of path low
   action_there (Store to kind from) (of, path, single') low = move_there from to of path low
   action_there (Copy of to from) (a, b, parts) low =
-      both (nat_lt of.0 mir.counts.types && path_fits mir x to) (path_fits mir x from)
-      (both (nat_lt of.0 mir.counts.types) (path_fits mir x to) (type_there of a.small) (path_there to of a (omega arith))) (path_there from of b (omega arith))
+      and_from (nat_lt of.0 mir.counts.types && path_fits mir x to) (path_fits mir x from)
+      (and_from (nat_lt of.0 mir.counts.types) (path_fits mir x to) (type_there of a.small) (path_there to of a (omega arith))) (path_there from of b (omega arith))
   action_there (Look at) (of, path) low = path_there at of path low
-  action_there (BeginWith v) (variable, small, solid, fits) low = below v.0 x.locals (let few = variable.0 in omega arith)
+  action_there (BeginWith v) (variable, small, solid, fits) low = lt-ltb v.0 x.locals (let few = variable.0 in omega arith)
   action_there (Pick to text index) t low = two_there to index low
   action_there (Compute c) t low = computation_there c low
   action_there (Write y) t low = writing_there y low

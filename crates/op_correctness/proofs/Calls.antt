@@ -1,6 +1,7 @@
 -- Calls of typed code are those that the agreement asks for: what they name is there, and each parameter is given what its row is to have.
 use Rattle.std.proofs.Common.{◌≡◌, ◌≤◌, ℕ, List, [], ◌∷◌, length, Option, Some, None, refl, sym, ap, ◌∙◌, subst, arith}
 use Rattle.std.specs.Prelude.{true, map}
+use Rattle.std.proofs.lemmas.Bool.{and_from}
 use Rattle.std.specs.List.{list_all}
 use Rattle.op_constants.specs.Arranged.{IsSmall}
 use Rattle.op_core.specs.Rows.{rows}
@@ -30,7 +31,7 @@ use Rattle.op_typing.proofs.Paths.{temporary_path}
 use Rattle.op_typing.specs.Simple.{IsSimpleProgram}
 use Rattle.op_typing.specs.Typed.{IsComposite, AreTypedGiven as TypedGivens, IsTypedCall as TypedCall, IsTypedGiven as TypedGiven, IsTypedReceiver as TypedReceiver, PathTo as TypedPath}
 use Rattle.op_agreement.specs.Typed.{AreTypedGiven, IsTypedCall, IsTypedGiven, IsTypedReceiver, parameter_rows}
-use Rattle.op_correctness.proofs.Actions.{both, has_it, path_there, type_there}
+use Rattle.op_correctness.proofs.Actions.{has_it, path_there, type_there}
 use Rattle.op_correctness.proofs.ParameterRows.{AreRows, parameters_stand}
 use Rattle.op_correctness.proofs.Places.{path_is}
 
@@ -79,13 +80,13 @@ module _ (core : Core) (sound : IsSound core) (mir : Mir) (r : ℕ) (x : Routine
   given_there (ByReference t) p typed low = absurd typed
   given_there (ByPlace path) p (to, refers) low = path_there core sound mir r x types variables locals path p.of to low
   given_there (ByCopy of path) p (same, to, whole, own) low =
-      both _ (path_fits mir x path) (type_there core sound mir r x types variables locals of to.small) (path_there core sound mir r x types variables locals path of to low)
+      and_from _ (path_fits mir x path) (type_there core sound mir r x types variables locals of to.small) (path_there core sound mir r x types variables locals path of to low)
 
   -- to all parameters
   givens_there : (gs : List Given) (ps : List ParameterRow) → TypedGivens core r (map view_given gs) ps → Every (λ g. in_given g ≤ x.temporaries) gs → list_all (given_fits mir x) gs ≡ true
   givens_there [] ps typed low = refl
   givens_there (g ∷ gs) [] typed low = absurd typed
-  givens_there (g ∷ gs) (p ∷ ps) (first, typed) (here, low) = both (given_fits mir x g) (list_all (given_fits mir x) gs) (given_there g p first here) (givens_there gs ps typed low)
+  givens_there (g ∷ gs) (p ∷ ps) (first, typed) (here, low) = and_from (given_fits mir x g) (list_all (given_fits mir x) gs) (given_there g p first here) (givens_there gs ps typed low)
 
   -- and what gets the result
   receiver_there : (y : Receiver) (result : Option TypeId) → TypedReceiver core result (view_receiver y) → in_receiver y ≤ x.temporaries → receiver_fits mir x y ≡ true
@@ -95,7 +96,7 @@ module _ (core : Core) (sound : IsSound core) (mir : Mir) (r : ℕ) (x : Routine
   receiver_there (Place of to) None typed low = absurd typed
   receiver_there (Place of to) (Some type) (same, whole, small, (n, is)) low =
       let own : TypedPath core r (view_path to) type = subst (λ y. TypedPath core r y type) (sym is) (temporary_path core r type n small) in
-      both _ (path_fits mir x to) (type_there core sound mir r x types variables locals of (subst (IsSmall core) (sym same) small)) (path_there core sound mir r x types variables locals to type own low)
+      and_from _ (path_fits mir x to) (type_there core sound mir r x types variables locals of (subst (IsSmall core) (sym same) small)) (path_there core sound mir r x types variables locals to type own low)
 
   -- What a typed call names is there.
   pub call_there : (q : ℕ) (call : Operands) → TypedCall core r q (map view_given call.given) (view_receiver call.receiver) → in_call call ≤ x.temporaries → (all_given_fit mir x call.given ≡ true) × (receiver_fits mir x call.receiver ≡ true)

@@ -1,5 +1,7 @@
 -- The agreements of the passes, one after the other.
-use Rattle.std.proofs.Common.{◌≡◌, ◌≢◌, ◌≤◌, ◌<◌, ℕ, zero, suc, ◌+◌, ◌-◌, List, refl, sym, ap, ◌∙◌, subst, arith, inl, inr, ◌⊎◌, le_trans, mul-le-mul_right, ◌*◌}
+use Rattle.std.proofs.Common.{◌≡◌, ◌≢◌, ◌≤◌, ◌<◌, ℕ, zero, suc, ◌+◌, ◌-◌, false, true, List, [], refl, sym, ap, ap₂, ◌∙◌, subst, arith, inl, inr, ◌⊎◌, le_trans, mul-le-mul_right, ◌*◌}
+use Rattle.std.specs.List.{list_any}
+use Rattle.std.specs.Prelude.{IsTrue}
 use Rattle.std.proofs.lemmas.Bool.{cases_lt}
 use Rattle.op_core.specs.declared.program.Core.{Core}
 use Rattle.op_image.specs.Means.{AreBytes, Runs, image_run, low_start}
@@ -8,6 +10,7 @@ use Rattle.op_low.specs.State.{State as LowState, Ending as LowEnding, Running a
 use Rattle.op_low.specs.declared.code.Low.{Low}
 use Rattle.op_managed.specs.Managed.{Manages, goes_along}
 use Rattle.op_meaning.specs.Frames.{State as SourceState, program_of}
+use Rattle.op_meaning.specs.Source.{LooksAtInput, is_of_input}
 use Rattle.op_meaning.specs.Start.{start}
 use Rattle.op_meaning.specs.World.{Ending, Running, Ended, World}
 use Rattle.op_mir.specs.Machine.{MirState, mir_machine, mir_start, mir_cost}
@@ -15,14 +18,16 @@ use Rattle.op_mir.specs.Plain.{IsPlain}
 use Rattle.op_mir.specs.declared.code.Mir.{Mir}
 use Rattle.op_optimize.specs.Shortening.{Passed, Shortens}
 use Rattle.op_rv.specs.State.{State as ImageState, Running as GoesOn, Ended as HasEnded}
-use Rattle.op_select.specs.Going.{Setting as Placed, placement_of}
+use Rattle.op_rv.specs.Step.{CallsRead}
+use Rattle.op_select.specs.Going.{IsSafe, Setting as Placed, placement_of}
 use Rattle.op_select.specs.RiscvMachine.{riscv_machine}
 use Rattle.op_select.specs.Selected.{Matches, MatchesBy, selected}
 use Rattle.op_simulation.proofs.Points.{point_passes}
-use Rattle.op_simulation.proofs.Runs.{run_add, run_past_end, spent_add}
+use Rattle.op_simulation.proofs.Composition.{joins_equal}
+use Rattle.op_simulation.proofs.Runs.{run_add, run_last, run_past_end, spent_add}
 use Rattle.op_simulation.specs.Matching.{Agreement, Follows}
-use Rattle.op_simulation.specs.System.{System, run, Halted, spent}
-use Rattle.op_agreement.proofs.Following.{EndsAs, agrees, fine_before, never_bad, same_states}
+use Rattle.op_simulation.specs.System.{System, run, Halted, spent, trace}
+use Rattle.op_agreement.proofs.Following.{EndsAs, agrees, fine_before, never_bad, same_states, trace_counted}
 use Rattle.op_agreement.proofs.Going.{run_counted}
 use Rattle.op_agreement.proofs.Starting.{starts}
 use Rattle.op_agreement.specs.Claims.{lowered}
@@ -30,10 +35,12 @@ use Rattle.op_agreement.specs.Fitting.{IsFitting}
 use Rattle.op_agreement.specs.Settings.{Setting, managed}
 use Rattle.op_agreement.specs.Stands.{Stands}
 use Rattle.op_agreement.specs.Starting.{IsLoaded, Starts, low_begins}
-use Rattle.op_agreement.specs.Steps.{cost_going, counted, most_for_one}
+use Rattle.op_agreement.proofs.Streams.{joins_bytes}
+use Rattle.op_agreement.specs.Steps.{cost_going, counted, is_read, most_for_one}
 use Rattle.op_link.specs.Image.{start as image_begin}
 use Rattle.op_meaning.specs.Costs.{cost as cost_above}
 use Rattle.op_correctness.proofs.Settling.{counted_steps, counts_less, counts_nothing, going, one_or_none, settles, settling, stays, while_running}
+use Rattle.op_correctness.proofs.Showing.{among, call_is_shown}
 use Rattle.op_correctness.proofs.Shortened.{Less, better_is_good, costs_less, improved, points_rise}
 use Rattle.op_correctness.proofs.Spending.{Between, EachCosts, between, same_run}
 use Rattle.op_correctness.specs.Agrees.{EndsAlike, GoesAlong, LooksAlike, source_run, most_for_work}
@@ -213,13 +220,13 @@ module _ (core : Core) (mir : Mir) (stack : ℕ) (low : Low) (w : Placed) (image
       managed_more = suc (upper.stretch n).more
 
       middle_between : Between (lowered g) begin started.to middle (mir_cost (managed g)) (λ l. cost_going g l l.ending) most_for_one (upper.point n) managed_more
-      middle_between = between (lowered g) begin started.to middle (mir_cost (managed g)) (λ l. cost_going g l l.ending) most_for_one (λ k. (middle.stretch k).within) (upper.point n) managed_more
+      middle_between = between (lowered g) joins_bytes begin started.to middle (mir_cost (managed g)) (λ l. cost_going g l l.ending) most_for_one (λ k. (middle.stretch k).within) (upper.point n) managed_more
 
       better_between : Less g w.low low_first better_first short (low_point n) middle_between.more
       better_between = costs_less g w.low low_first better_first short (low_point n) middle_between.more
 
       lower_between : Between (selected w) better_first runs.along.first lower (λ l. cost_going better_g l l.ending) going (selected w).factor (better_point n) better_between.more
-      lower_between = between (selected w) better_first runs.along.first lower (λ l. cost_going better_g l l.ending) going (selected w).factor image_costs (better_point n) better_between.more
+      lower_between = between (selected w) joins_equal better_first runs.along.first lower (λ l. cost_going better_g l l.ending) going (selected w).factor image_costs (better_point n) better_between.more
 
       -- the next point is so far
       far_next : far (suc n) ≡ far n + lower_between.more
@@ -378,7 +385,7 @@ module _ (core : Core) (mir : Mir) (stack : ℕ) (low : Low) (w : Placed) (image
     first =
         let few = runs.along.within in
         let better_between = costs_less g w.low low_first better_first short 0 started.goes.steps in
-        let low_between = between (selected w) better_first runs.along.first lower (λ l. cost_going better_g l l.ending) going (selected w).factor image_costs 0 better_between.more in
+        let low_between = between (selected w) joins_equal better_first runs.along.first lower (λ l. cost_going better_g l l.ending) going (selected w).factor image_costs 0 better_between.more in
         let start_low = started.goes.within in
         let begins = upper.first in
         let begins_middle = middle.first in
@@ -416,5 +423,85 @@ module _ (core : Core) (mir : Mir) (stack : ℕ) (low : Low) (w : Placed) (image
         run_at_none : (k : ℕ) (b : ImageState) → k ≡ 0 → run riscv_machine k b ≡ b
         run_at_none k b e = ap (λ k. run riscv_machine k b) e ∙ run_none riscv_machine b
 
+    -- ---- where the image calls for input
+
+    -- a call for input, as what is shown behind the first steps
+    shown_at : (from m : ℕ) (b : ImageState) → image_run image input from ≡ b → from ≤ m → CallsRead (image_run image input m) → IsTrue (list_any is_read (riscv_machine.shows (run riscv_machine (m - from) b)))
+    unfolding Rattle.op_simulation.specs.System.run
+    shown_at from m b is past calls =
+        let e : from + (m - from) ≡ m = omega arith in
+        let there : image_run image input m ≡ run riscv_machine (m - from) b = ap (image_run image input) (sym e) ∙ run_add riscv_machine from (m - from) (image_begin image input) ∙ ap (run riscv_machine (m - from)) is in
+        let next : image_run image input (suc m) ≡ riscv_machine.step (image_run image input m) = run_last riscv_machine m (image_begin image input) in
+        subst (λ c. IsTrue (list_any is_read (riscv_machine.shows c))) there (call_is_shown (image_run image input m) calls (subst (λ c. IsSafe c.ending) next (runs.safe (suc m))))
+
+    -- between two points there is one only where the program looks
+    reads_far : (n m : ℕ) → far n ≤ m → m < far (suc n) → CallsRead (image_run image input m) → LooksAtInput (program_of core stack) (source_run (program_of core stack) input n)
+    reads_far n m past before calls =
+        let next = far_next n in
+        let l = better_at (better_point n) in
+        let b = run riscv_machine (lower.point (better_point n)) runs.along.first in
+        let below : IsTrue (list_any is_read (trace riscv_machine (lower_between n).more b)) = among riscv_machine is_read (m - far n) (lower_between n).more b (omega arith) (shown_at (far n) m b (image_is n) past calls) in
+        let better : IsTrue (list_any is_read (trace (low_machine g.low g.placement) (middle_between n).more (low_at (low_point n)))) = ap (list_any is_read) (sym (better_between n).shown ∙ (lower_between n).shown) ∙ below in
+        let low_code : IsTrue (list_any is_read (trace (counted g) (middle_between n).more (run (counted g) (middle.point (upper.point n)) started.to))) =
+        ap (list_any is_read) (ap (trace (counted g) (middle_between n).more) (sym (low_is n)) ∙ trace_counted g (middle_between n).more (low_at (low_point n))) ∙ better in
+        ap (list_any is_of_input) (upper.stretch n).traces ∙ (middle_between n).shown.input low_code
+
+    -- and before the first one there is none
+    unread_far : (m : ℕ) → m < far 0 → CallsRead (image_run image input m) → ⊥
+    unread_far m before calls = by (cases_lt m runs.along.steps)
+      where
+        all : m - 0 ≡ m
+        all = omega arith
+
+        no_read : IsTrue (list_any is_read []) → ⊥
+        no_read is = let clash : false ≡ true = is in absurd cc
+
+        by : (m < runs.along.steps) ⊎ (runs.along.steps ≤ m) → ⊥
+        by (inl early) =
+            no_read (ap (list_any is_read) (sym runs.along.path.shows) ∙ among riscv_machine is_read m runs.along.steps (image_begin image input) early (subst (λ k. IsTrue (list_any is_read (riscv_machine.shows (run riscv_machine k (image_begin image input))))) all (shown_at 0 m (image_begin image input) (run_none riscv_machine (image_begin image input)) (omega arith) calls)))
+        by (inr late) =
+            let begins = upper.first in
+            let begins_middle = middle.first in
+            let begins_short = short.first in
+            let same_middle = ap middle.point begins in
+            let steps_are : low_point 0 ≡ started.goes.steps = omega arith in
+            let less = costs_less g w.low low_first better_first short 0 (low_point 0) in
+            let at = less.at in
+            let none : 0 + low_point 0 ≡ low_point 0 = omega arith in
+            let same_point = ap short.point none in
+            let more_is : less.more ≡ better_point 0 = omega arith in
+            let better_is : better_at (short.point 0) ≡ better_first = ap better_at begins_short ∙ run_none (low_machine w.low (placement_of w)) better_first in
+            let below = among riscv_machine is_read (m - runs.along.steps) (lower.point (better_point 0)) runs.along.first (omega arith) (shown_at runs.along.steps m runs.along.first runs.along.path.ends late calls) in
+            let same : trace (low_machine g.low g.placement) started.goes.steps low_first ≡ trace riscv_machine (lower.point (better_point 0)) runs.along.first =
+            ap₂ (λ k l. trace (low_machine g.low g.placement) k l) (sym steps_are) (sym (run_none (low_machine g.low g.placement) low_first))
+            ∙ sym less.shown ∙ ap₂ (λ k l. trace (low_machine w.low (placement_of w)) k l) more_is better_is ∙ lower.traces (better_point 0) in
+            let clash : false ≡ true = sym started.goes.unread ∙ ap (list_any is_read) same ∙ below in
+            absurd cc
+
+    reads : (n m : ℕ) → point n ≤ m → m < point (suc n) → CallsRead (image_run image input m) → LooksAtInput (program_of core stack) (source_run (program_of core stack) input n)
+    reads n m past before calls = by (going (image_run image input (far n))) refl
+      where
+        runs_there : going (image_run image input m) ≡ 1
+        runs_there = ap while_running calls.runs
+
+        by : (k : ℕ) → going (image_run image input (far n)) ≡ k → LooksAtInput (program_of core stack) (source_run (program_of core stack) input n)
+        by zero none =
+            let halted = stays (image_run image input (point n)) (ap going (point_is n) ∙ none) in
+            let stayed = run_past_end riscv_machine (point n) m (image_begin image input) halted past in
+            let same : going (image_run image input m) ≡ 0 = ap going (stayed ∙ point_is n) ∙ none in
+            let runs_on = runs_there in
+            absurd (omega arith)
+        by (suc k) some =
+            let few = one_or_none (image_run image input (far n)).ending in
+            let none = no_idles n (omega arith) in
+            let all = (settles (image_begin image input) (far n)).all (omega arith) in
+            let next = next_idles n in
+            let less = (settles (image_begin image input) (far (suc n))).few in
+            reads_far n m (omega arith) (omega arith) calls
+
+    unread : (m : ℕ) → m < point 0 → CallsRead (image_run image input m) → ⊥
+    unfolding idles
+    unread m before calls = let less = (settles (image_begin image input) (far 0)).few in unread_far m (omega arith) calls
+
     pub along : GoesAlong (program_of core stack) image input
-    along = record { point = point; rises = rises; passes = passes; alike = alike; safe = runs.safe; first = first; soon = soon }
+    along = record { unread = unread; reads = reads; point = point; rises = rises; passes = passes; alike = alike; safe = runs.safe; first = first; soon = soon }

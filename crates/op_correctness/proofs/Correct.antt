@@ -48,10 +48,10 @@ use Rattle.op_correctness.specs.SimpleCore.{IsSimpleCore}
 
 -- ---- what the test gives
 
-simple_core : (core : Core) → IsPlainCore core → IsSimpleCore core
+pub simple_core : (core : Core) → IsPlainCore core → IsSimpleCore core
 simple_core core class = record { simple = class.simple; counted = class.counted; exceptions = class.exceptions; few = class.few }
 
-core_charges : (core : Core) → IsPlainCore core → HaveCharges core
+pub core_charges : (core : Core) → IsPlainCore core → HaveCharges core
 core_charges core class r low = record { variables = class.charged r; parameters = class.parameters r }
 
 -- a stack has at most 64 MiB
@@ -125,12 +125,12 @@ module _ (core : Core) (mir : Mir) (settings : Settings) (image : List ℕ) (pla
 
 -- ---- low code may be built
 
-pub buildable : (core : Core) (mir : Mir) (stack : ℕ) → is_plain_program core ≡ true → IsSound core → IsSoundNesting core → Lowers core mir → length core.globals ≤ 2446676 → is_buildable (low_of core mir stack) (layout_of (literals_of core mir)) ≡ true
-buildable core mir stack plain sound nesting lowers few =
+pub buildable : (core : Core) (mir : Mir) (stack : ℕ) → is_plain_program core ≡ true → IsSound core → IsSoundNesting core → Lowers core mir → is_buildable (low_of core mir stack) (layout_of (literals_of core mir)) ≡ true
+buildable core mir stack plain sound nesting lowers =
     let class = plain_by_test core plain in
-    low_is_buildable core mir sound nesting (simple_core core class) (core_charges core class) lowers stack few
+    low_is_buildable core mir sound nesting (simple_core core class) (core_charges core class) lowers stack
 
 -- so may what the optimizer makes of it
-pub better_buildable : (core : Core) (mir : Mir) (stack : ℕ) (better : Low) → is_plain_program core ≡ true → IsSound core → IsSoundNesting core → Lowers core mir → length core.globals ≤ 2446676 → Optimizes (low_of core mir stack) better → is_buildable better (layout_of (literals_of core mir)) ≡ true
-better_buildable core mir stack better plain sound nesting lowers few optimizes =
-    stays_buildable (low_of core mir stack) better (layout_of (literals_of core mir)) optimizes (buildable core mir stack plain sound nesting lowers few)
+pub better_buildable : (core : Core) (mir : Mir) (stack : ℕ) (better : Low) → is_plain_program core ≡ true → IsSound core → IsSoundNesting core → Lowers core mir → Optimizes (low_of core mir stack) better → is_buildable better (layout_of (literals_of core mir)) ≡ true
+better_buildable core mir stack better plain sound nesting lowers optimizes =
+    stays_buildable (low_of core mir stack) better (layout_of (literals_of core mir)) optimizes (buildable core mir stack plain sound nesting lowers)

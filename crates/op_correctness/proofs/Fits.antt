@@ -3,7 +3,7 @@ use Rattle.std.proofs.Common.{◌≡◌, ◌≤◌, ◌<◌, ◌+◌, ℕ, false
 use Rattle.std.proofs.lemmas.Option.{slice_get_within}
 use Rattle.std.specs.Prelude.{slice_get, true}
 use Rattle.op_constants.proofs.SoundFirst.{first_type}
-use Rattle.op_constants.proofs.TypesArranged.{some_at}
+use Rattle.op_core.proofs.Rows.{there_is}
 use Rattle.op_core.specs.Sound.{IsSound, IsSoundNesting}
 use Rattle.op_core.specs.declared.ids.RoutineId.{RoutineId}
 use Rattle.op_core.specs.declared.ids.TypeId.{TypeId}
@@ -45,7 +45,7 @@ use Rattle.op_correctness.specs.Spacious.{IsSpacious}
 module _ (g : Setting) (sound : IsSound g.core) (nesting : IsSoundNesting g.core) (is : IsSimpleCore g.core) (lowers : Lowers g.core g.mir) where
   -- the rows of parameters are as many as are counted
   parameters_told : (r : ℕ) → r < length g.core.routines → length (parameter_rows g.core r) ≡ parameters_of g.core r
-  parameters_told r low = let (y, there) = some_at g.core.routines r low in parameters_counted g.core sound is.simple r y there
+  parameters_told r low = let (y, there) = there_is g.core.routines r low in parameters_counted g.core sound is.simple r y there
 
   has_result : (r : ℕ) (of : TypeId) → HasVariable g.core r (result_of_routine g.core r) (RowIs Result of) → HasResult g.core r of
   has_result r of (low, row) = variable_is g.core r (result_of_routine g.core r) of false (low, some_then (slice_get g.core.variables ((variables_of g.core r).first + result_of_routine g.core r)) (RowIs Result of) (λ x. (x.of ≡ of) × (is_reference x.role ≡ false)) row (λ x is_row. (is_row.1, ap is_reference is_row.0)))

@@ -1,12 +1,13 @@
 -- The managed code of a sound program of the class fits, so that its low code may be built.
-use Rattle.std.proofs.Common.{◌≡◌, ◌<◌, ◌≤◌, ℕ, ◌+◌, ◌-◌, ◌*◌, ◌^◌, min, List, [], ◌∷◌, ◌++◌, length, map, Option, Some, None, slice_get, true, refl, sym, ap, ◌∙◌, subst, arith}
+use Rattle.std.proofs.Common.{◌≡◌, ◌<◌, ◌≤◌, ℕ, ◌+◌, ◌-◌, ◌*◌, ◌^◌, min, List, [], ◌∷◌, ◌++◌, length, map, Option, Some, None, slice_get, true, sym, ap, ◌∙◌, subst, arith}
 use Rattle.std.proofs.lemmas.List.Elements.{All-head, All-tail}
 use Rattle.std.proofs.lemmas.Option.{slice_get_within}
 use Rattle.std.specs.List.{All}
-use Rattle.std.specs.Prelude.{IsSome, IsTrue}
-use Rattle.op_constants.proofs.TypesArranged.{some_at}
+use Rattle.std.specs.Prelude.{IsTrue}
+use Rattle.op_base.proofs.Tests.{some_there}
 use Rattle.op_constants.specs.Literals.{literals_of}
 use Rattle.op_constants.specs.Offsets.{size_in}
+use Rattle.op_core.proofs.Rows.{there_is}
 use Rattle.op_core.specs.Rows.{rows}
 use Rattle.op_core.specs.Sound.{IsSound, IsSoundNesting, RoleAndType, is_of_block, role_and_type}
 use Rattle.op_core.specs.declared.ids.RoutineId.{RoutineId}
@@ -41,6 +42,7 @@ use Rattle.op_meaning.specs.Charge.{charge_of}
 use Rattle.op_meaning.specs.Frames.{program_of}
 use Rattle.op_meaning.specs.Shapes.{variables_of}
 use Rattle.op_mir.specs.Code.{items_of}
+use Rattle.op_mir.specs.FrameNeed.{frame_need}
 use Rattle.op_mir.specs.declared.code.Mir.{Mir}
 use Rattle.op_mir.specs.declared.code.Routine.{Routine}
 use Rattle.op_typing.proofs.Blocks.{blocks_typed}
@@ -50,7 +52,7 @@ use Rattle.op_typing.proofs.Paths.{has_rows, reference_low, routine, rows_of}
 use Rattle.op_typing.proofs.Rows.{each_row, not_true}
 use Rattle.op_typing.specs.Simple.{IsSimpleProgram, IsSimpleRoutine}
 use Rattle.op_typing.specs.Typed.{AreTypedBlocks}
-use Rattle.op_wholes.proofs.FramesFit.{all_named, frame_fits}
+use Rattle.op_wholes.proofs.FramesFit.{all_named, frame_fits, need_fits}
 use Rattle.op_wholes.specs.Listed.{wholes_of_statements}
 use Rattle.op_correctness.proofs.Finalizations.{PartIs, parts_are}
 use Rattle.op_correctness.proofs.Named.{blocks_named}
@@ -97,18 +99,13 @@ kept : (core : Core) (vs : List Variable) → Every (λ v. IsCharged v.role) vs 
 kept core [] charged own = tt
 kept core (v ∷ vs) (charge, charged) (first, own) = ((charge, λ object. absurd (first object)), kept core vs charged own)
 
--- what there is
-some_of : {A : Type 0} (o : Option A) → IsSome o → (x : A) × (o ≡ Some x)
-some_of None some = absurd (not_true some)
-some_of (Some x) some = (x, refl)
-
 -- a charge that a stack may have is told as it is
 charge_told : (charge given : ℕ) → given ≡ min charge (2 ^ 64 - 1) → given ≤ most_charge → charge ≡ given
 charge_told charge given e less = omega (arith, e, less)
 
 -- a routine is no method, so it has a body
 pub body_there : (core : Core) → IsSound core → IsSimpleCore core → (r : ℕ) (row : Row) → slice_get core.routines r ≡ Some row → (b : Body) × (row.body ≡ Some b)
-body_there core sound is r row there = some_of row.body ((routine core sound is.simple r row there).has_body (each_row (IsSimpleRoutine core) core.routines r row is.simple.routines there).owner)
+body_there core sound is r row there = some_there row.body ((routine core sound is.simple r row there).has_body (each_row (IsSimpleRoutine core) core.routines r row is.simple.routines there).owner)
 
 -- ---- a routine
 
@@ -133,6 +130,17 @@ module _ (core : Core) (sound : IsSound core) (nesting : IsSoundNesting core) (i
       let within = frame_fits core 0 r row b sound simple there body x lowered (is.counted 0 r) rows_kept charge.parameters in
       let told = charge_told (charge_of core (record { 0 = r })) x.charge lowered.charge less in
       omega (arith, within, told)
+
+  -- Its charge is at least its need, which counts as the greatest number of 64 bits where it is more.
+  pub need_charged : min (frame_need core r x) (2 ^ 64 - 1) ≤ x.charge
+  need_charged =
+      let (b, body) = has_body in
+      let within = need_fits core 0 r row b sound simple there body x lowered (is.counted 0 r) rows_kept charge.parameters in
+      let told = lowered.charge in
+      least (frame_need core r x) (charge_of core (record { 0 = r })) x.charge within told
+    where
+      least : (need charge given : ℕ) → need ≤ charge → given ≡ min charge (2 ^ 64 - 1) → min need (2 ^ 64 - 1) ≤ given
+      least need charge given less e = omega (arith, less, e)
 
   -- its blocks are typed
   typed : AreTypedBlocks core r (seen_blocks core r x.blocks)
@@ -168,7 +176,7 @@ module _ (core : Core) (sound : IsSound core) (nesting : IsSoundNesting core) (i
 module _ (core : Core) (mir : Mir) (sound : IsSound core) (nesting : IsSoundNesting core) (is : IsSimpleCore core) (charges : HaveCharges core) (lowers : Lowers core mir) where
   -- a routine of managed code has a row
   pub row_of : (r : ℕ) (x : Routine) → slice_get mir.routines r ≡ Some x → (row : Row) × (slice_get core.routines r ≡ Some row)
-  row_of r x at = let low = slice_get_within mir.routines r x at in let number = lowers.number in some_at core.routines r (omega (arith, low, number))
+  row_of r x at = let low = slice_get_within mir.routines r x at in let number = lowers.number in there_is core.routines r (omega (arith, low, number))
 
   -- Each routine fits.
   pub each_fits : (r : ℕ) (x : Routine) → slice_get mir.routines r ≡ Some x → IsFitting core r x
@@ -195,6 +203,6 @@ module _ (core : Core) (mir : Mir) (sound : IsSound core) (nesting : IsSoundNest
   pub low_is_valid : (stack : ℕ) → is_valid (low_of core mir stack) ≡ true
   low_is_valid stack = valid core mir stack are_fitting
 
-  -- It may be built, where there are no more global variables than have room.
-  pub low_is_buildable : (stack : ℕ) → length core.globals ≤ 2446676 → is_buildable (low_of core mir stack) (layout_of (literals_of core mir)) ≡ true
-  low_is_buildable stack few = buildable core mir stack are_fitting (globals_fit core sound few)
+  -- It may be built.
+  pub low_is_buildable : (stack : ℕ) → is_buildable (low_of core mir stack) (layout_of (literals_of core mir)) ≡ true
+  low_is_buildable stack = buildable core mir stack are_fitting (globals_fit core sound)

@@ -7,10 +7,14 @@ pub mod Ending
 pub mod Finalizations
 pub mod Fits
 pub mod Fitting
+pub mod Grows
 pub mod Instructions
 pub mod Loaded
 pub mod Making
+pub mod ManagedValid
 pub mod Named
+pub mod Needed
+pub mod OperandKinds
 pub mod OwnCode
 pub mod Paid
 pub mod ParameterRows
@@ -18,9 +22,11 @@ pub mod Places
 pub mod Placing
 pub mod PlainItems
 pub mod ProgramCode
+pub mod ReadCalls
 pub mod RoutineCode
 pub mod Settling
 pub mod Shortened
+pub mod Showing
 pub mod Sized
 pub mod Space
 pub mod Spending

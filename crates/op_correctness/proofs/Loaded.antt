@@ -6,9 +6,10 @@ use Rattle.std.specs.Option.{option_map}
 use Rattle.std.proofs.lemmas.Option.{slice_get_within}
 use Rattle.op_build.specs.Built.{program_layout, program_low}
 use Rattle.op_constants.proofs.SoundFirst.{row_fits, small_type}
-use Rattle.op_constants.proofs.TypesArranged.{all_at, some_at}
+use Rattle.op_constants.proofs.TypesArranged.{all_at}
 use Rattle.op_constants.specs.Arranged.{IsSmall}
 use Rattle.op_constants.specs.FirstFits.{FirstFits}
+use Rattle.op_core.proofs.Rows.{there_is}
 use Rattle.op_core.specs.Initial.{FirstValue, first_value_of}
 use Rattle.op_core.specs.Sizes.{type_at}
 use Rattle.op_core.specs.Sound.{IsFirst, IsSound, IsVariableRow}
@@ -40,7 +41,7 @@ use Rattle.op_agreement.specs.Fitting.{IsPlacedProgram}
 use Rattle.op_agreement.specs.Settings.{Setting}
 use Rattle.op_agreement.specs.Starting.{IsLoaded}
 use Rattle.op_agreement.specs.Typed.{IsGlobal}
-use Rattle.op_correctness.proofs.Placing.{global_stands, globals_apart, literal_stands, stack_word, values_loaded, zeros_loaded, due_stands}
+use Rattle.op_correctness.proofs.Placing.{global_stands, globals_apart, literal_stands, stack_aligned, stack_word, values_loaded, zeros_loaded, due_stands}
 use Rattle.op_correctness.proofs.Thinner.{frames_less}
 use Rattle.op_correctness.specs.Placed.{setting_in}
 
@@ -57,7 +58,7 @@ in_front [] ys k less = absurd (omega arith)
 in_front (x ∷ xs) ys zero less = refl
 in_front (x ∷ xs) ys (suc k) less = let less' : suc k < suc (length xs) = less in in_front xs ys k (omega arith)
 
-small_frames : (k : ℕ) → k < 8 → frame_of (routine_or (slice_get runtime_routines k)) ≤ 64
+small_frames : (k : ℕ) → k < 9 → frame_of (routine_or (slice_get runtime_routines k)) ≤ 64
 unfolding frame_of
 small_frames zero less = omega arith
 small_frames (suc zero) less = omega arith
@@ -67,7 +68,8 @@ small_frames (suc (suc (suc (suc zero)))) less = omega arith
 small_frames (suc (suc (suc (suc (suc zero))))) less = omega arith
 small_frames (suc (suc (suc (suc (suc (suc zero)))))) less = omega arith
 small_frames (suc (suc (suc (suc (suc (suc (suc zero))))))) less = omega arith
-small_frames (suc (suc (suc (suc (suc (suc (suc (suc k)))))))) less = absurd (omega arith)
+small_frames (suc (suc (suc (suc (suc (suc (suc (suc zero)))))))) less = omega arith
+small_frames (suc (suc (suc (suc (suc (suc (suc (suc (suc k))))))))) less = absurd (omega arith)
 
 module _ (core : Core) (mir : Mir) (settings : Settings) (better : Low) (optimizes : Optimizes (program_low core mir settings) better) (image : List ℕ) (means : Means better (program_layout core mir) settings image) (sound : IsSound core) (few : settings.stack ≤ 65536) where
   abbrev g : Setting
@@ -79,7 +81,7 @@ module _ (core : Core) (mir : Mir) (settings : Settings) (better : Low) (optimiz
   -- ---- rows of global variables
 
   row_at : (v : ℕ) → IsGlobal core v → (row : Variable) × (slice_get core.variables v ≡ Some row)
-  row_at v global = some_at core.variables v global.0
+  row_at v global = there_is core.variables v global.0
 
   small_row : (v : ℕ) (row : Variable) → IsGlobal core v → slice_get core.variables v ≡ Some row → IsSmall core row.of
   small_row v row global is = by (type_at core row.of) refl (all_at (IsVariableRow core) core.variables v row global.0 is sound.variables)
@@ -98,7 +100,7 @@ module _ (core : Core) (mir : Mir) (settings : Settings) (better : Low) (optimiz
         runtime = has_runtime g low_is (λ r less. frames r less);
         words = means.placement.words;
         literals = λ id bytes is. literal_stands core mir settings better optimizes image means id bytes is;
-        globals = λ v global. let (row, is) = row_at v global in global_stands core mir settings better optimizes image means v row is (made v row global is) (small_row v row global is);
+        globals = λ v global. let (row, is) = row_at v global in global_stands core mir settings better optimizes image means v row sound.extents is (made v row global is) (small_row v row global is);
         apart = λ v u differ one other. let (a, is_a) = row_at v one in let (b, is_b) = row_at u other in globals_apart core mir settings better optimizes image means v u a b differ is_a is_b (made v a one is_a) (made u b other is_b);
         due = due_stands core mir settings better optimizes image means (stack_made g low_is) (λ v global. let (row, is) = row_at v global in (row, is, made v row global is)) few;
         whole = omega arith;
@@ -126,7 +128,7 @@ module _ (core : Core) (mir : Mir) (settings : Settings) (better : Low) (optimiz
         zeros = λ v global none x low. let (row, is) = row_at v global in zeros_loaded core mir settings better optimizes image means v row is (sym (first_is v row is) ∙ none) (made v row global is) x low;
         values = λ v value global some. let (row, is) = row_at v global in (fits v row value global is (sym (first_is v row is) ∙ some), λ x low. values_loaded core mir settings better optimizes image means v row value is (sym (first_is v row is) ∙ some) (made v row global is) x low);
         bytes = λ x low. bytes_small image x means.bytes;
-        stack_whole = stack.aligned;
+        stack_whole = stack_aligned settings.stack _ image _ stack;
         stack_readable = stack.readable;
         stack_below = stack.below;
         stack_told = told;

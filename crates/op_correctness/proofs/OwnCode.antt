@@ -1,12 +1,17 @@
 -- The program's own code enters the first parts of its units, makes the last ones due, and returns: it branches nowhere, and names no temporary.
-use Rattle.std.proofs.Common.{◌≡◌, ◌≤◌, ℕ, List, [], ◌∷◌, ◌++◌, Option, Some, None, refl, sym, subst, arith}
+use Rattle.std.proofs.Common.{◌≡◌, ◌≤◌, ◌<◌, ℕ, List, [], ◌∷◌, ◌++◌, Option, Some, None, slice_get, refl, sym, ap, ◌∙◌, subst, arith}
 use Rattle.std.proofs.lemmas.List.Concat.{flat_map-cons}
-use Rattle.std.specs.Prelude.{◌||◌, Bool, true, false, length, map}
-use Rattle.std.specs.List.{flat_map, list_any}
+use Rattle.std.proofs.lemmas.List.Elements.{All-head, All-tail}
+use Rattle.std.proofs.lemmas.Option.{slice_get_within}
+use Rattle.std.specs.Prelude.{◌||◌, Bool, true, false, IsSomeAnd, length, map}
+use Rattle.std.specs.List.{All, flat_map, list_any}
 use Rattle.op_agreement.specs.Typed.{IsLight}
+use Rattle.op_core.specs.Sound.{IsPart, IsUnit}
 use Rattle.op_core.specs.declared.ids.RoutineId.{RoutineId}
 use Rattle.op_core.specs.declared.program.Core.{Core}
 use Rattle.op_core.specs.declared.program.Unit.{Unit as UnitRow}
+use Rattle.op_core.specs.declared.routine.Owner.TheVariants.{Unit as OfUnit}
+use Rattle.op_core.specs.declared.routine.Routine.{Routine as Row}
 use Rattle.op_expand.specs.Calls.{has_closing, is_there}
 use Rattle.op_frames.proofs.Lowered.{most_at}
 use Rattle.op_frames.proofs.MadeLemmas.{every_append}
@@ -14,6 +19,7 @@ use Rattle.op_frames.specs.Made.{Every, IsCode, Leaves}
 use Rattle.op_lower.specs.Seen.{seen_blocks}
 use Rattle.op_lower.specs.Temporaries.{in_block, in_given, in_instruction, in_receiver, most_of}
 use Rattle.op_meaning.specs.Items.{nowhere}
+use Rattle.op_mir.specs.Kinds.{is_part}
 use Rattle.op_mir.specs.Code.{Instr, do_act, do_call, jump, when, unless, switch, dispatch, make_due, stop, ret, becoming_due, entering, unit_code}
 use Rattle.op_mir.specs.View.{view_given, view_instruction, view_receiver}
 use Rattle.op_mir.specs.declared.code.Block.{Block}
@@ -22,11 +28,13 @@ use Rattle.op_mir.specs.declared.instruction.Instruction.TheVariants.{Act, Call,
 use Rattle.op_mir.specs.declared.instruction.Instruction.{Instruction}
 use Rattle.op_mir.specs.declared.instruction.Receiver.TheVariants.{Nowhere, Temporary as ToTemporary, Place}
 use Rattle.op_mir.specs.declared.instruction.Receiver.{Receiver}
+use Rattle.op_typing.proofs.Rows.{some_and}
+use Rattle.op_typing.specs.Simple.{IsProcedure, IsSimpleUnit}
 use Rattle.op_correctness.specs.Targets.{IsTargeted}
 
 -- a call without arguments and without a result, a finalization part that becomes due, or a return
 abbrev IsBare : Core → Instr → Type 0
-IsBare core (do_call r given receiver landing) = (given ≡ []) × (receiver ≡ nowhere)
+IsBare core (do_call r given receiver landing) = (given ≡ []) × (receiver ≡ nowhere) × (landing ≡ None)
 IsBare core ret = Unit {0}
 IsBare core (do_act a landing) = ⊥
 IsBare core (jump k) = ⊥
@@ -43,7 +51,7 @@ module _ (core : Core) where
   -- a unit's first part is entered by a bare call
   entering_bare : (part : Option RoutineId) → Every (IsBare core) (entering part)
   entering_bare None = tt
-  entering_bare (Some q) = ((refl, refl), tt)
+  entering_bare (Some q) = ((refl, refl, refl), tt)
 
   -- where a last part becomes due there is a closing
   due_bare : (part : Option RoutineId) → (is_there part ≡ true → has_closing core ≡ true) → Every (IsBare core) (becoming_due part)
@@ -71,7 +79,7 @@ module _ (core : Core) where
 -- such code branches nowhere
 bare_targeted : (core : Core) (r n : ℕ) → r ≡ length core.routines → (is : List Instr) → Every (IsBare core) is → Every (IsTargeted core r n) is
 bare_targeted core r n own [] bare = tt
-bare_targeted core r n own (do_call q given receiver landing ∷ is) (here, bare) = (tt, bare_targeted core r n own is bare)
+bare_targeted core r n own (do_call q given receiver landing ∷ is) (here, bare) = (here.2, bare_targeted core r n own is bare)
 bare_targeted core r n own (make_due f ∷ is) (here, bare) = ((own, here), bare_targeted core r n own is bare)
 bare_targeted core r n own (ret ∷ is) (here, bare) = (tt, bare_targeted core r n own is bare)
 bare_targeted core r n own (do_act a landing ∷ is) (here, bare) = absurd here
@@ -103,6 +111,70 @@ own_targeted core r n own = (
   (record { each = (tt, tt); leaves = tt }, tt),
 )
 
+-- ---- finalization parts
+
+-- each part that becomes due is a routine without parameters and without a result
+abbrev pub IsDue : Core → Instr → Type 0
+IsDue core (make_due f) = (f.0 < length core.routines) × (is_part (slice_get core.routines f.0) ≡ true)
+IsDue core (do_call r given receiver landing) = Unit {0}
+IsDue core (do_act a landing) = Unit {0}
+IsDue core (jump k) = Unit {0}
+IsDue core (when t k) = Unit {0}
+IsDue core (unless t k) = Unit {0}
+IsDue core (switch t arms) = Unit {0}
+IsDue core (dispatch t k) = Unit {0}
+IsDue core (stop t) = Unit {0}
+IsDue core ret = Unit {0}
+
+module _ (core : Core) where
+  part_due : (f : RoutineId) → IsPart core (Some f) → IsProcedure core (Some f) → IsDue core (make_due f)
+  part_due f sound simple =
+      let (x, there, facts) = some_and (slice_get core.routines f.0) (λ (y : Row). (y.owner ≡ OfUnit) × (y.parameters.count ≡ 0)) sound in
+      let result : x.result ≡ None = if_there (slice_get core.routines f.0) x there simple in
+      (slice_get_within core.routines f.0 x there, ap is_part there ∙ part_by x facts.0 facts.1 result)
+    where
+      if_there : (o : Option Row) (x : Row) → o ≡ Some x → IsSomeAnd o (λ (y : Row). y.result ≡ None) → x.result ≡ None
+      if_there o x e h = subst (λ (p : Option Row). IsSomeAnd p (λ (y : Row). y.result ≡ None)) e h
+
+      part_by : (x : Row) → x.owner ≡ OfUnit → x.parameters.count ≡ 0 → x.result ≡ None → is_part (Some x) ≡ true
+      part_by x owner none result = rw (owner, none, result) refl
+
+  entering_due : (part : Option RoutineId) → Every (IsDue core) (entering part)
+  entering_due None = tt
+  entering_due (Some q) = (tt, tt)
+
+  becoming_is_due : (part : Option RoutineId) → IsPart core part → IsProcedure core part → Every (IsDue core) (becoming_due part)
+  becoming_is_due None sound simple = tt
+  becoming_is_due (Some f) sound simple = (part_due f sound simple, tt)
+
+  units_due : (us : List UnitRow) → All (IsUnit core) us → All (IsSimpleUnit core) us → Every (IsDue core) (flat_map unit_code us)
+  units_due [] sound simple = tt
+  units_due (u ∷ us) sound simple =
+      let is_sound = All-head (IsUnit core) u us sound in
+      let is_simple = All-head (IsSimpleUnit core) u us simple in
+      subst (Every (IsDue core)) (sym (flat_map-cons unit_code u us))
+      (every_append (IsDue core) (unit_code u) (flat_map unit_code us)
+      (every_append (IsDue core) (entering u.initialization) (becoming_due u.finalization) (entering_due u.initialization) (becoming_is_due u.finalization is_sound.3 is_simple.1))
+      (units_due us (All-tail (IsUnit core) u us sound) (All-tail (IsSimpleUnit core) u us simple)))
+
+  -- So is each that the program's own code makes due.
+  pub own_due : All (IsUnit core) core.units → All (IsSimpleUnit core) core.units → Every (Every (IsDue core)) (own_blocks core.units)
+  own_due sound simple = (every_append (IsDue core) (flat_map unit_code core.units) (ret ∷ []) (units_due core.units sound simple) (tt, tt), ((tt, tt), tt))
+
+  -- No other code makes one due.
+  pub none_due : (r n : ℕ) → r < length core.routines → (is : List Instr) → Every (IsTargeted core r n) is → Every (IsDue core) is
+  none_due r n low [] targeted = tt
+  none_due r n low (make_due f ∷ is) (here, targeted) = let own = here.0 in absurd (omega (arith, low, own))
+  none_due r n low (do_call q given receiver landing ∷ is) (here, targeted) = (tt, none_due r n low is targeted)
+  none_due r n low (do_act a landing ∷ is) (here, targeted) = (tt, none_due r n low is targeted)
+  none_due r n low (jump k ∷ is) (here, targeted) = (tt, none_due r n low is targeted)
+  none_due r n low (when t k ∷ is) (here, targeted) = (tt, none_due r n low is targeted)
+  none_due r n low (unless t k ∷ is) (here, targeted) = (tt, none_due r n low is targeted)
+  none_due r n low (switch t arms ∷ is) (here, targeted) = (tt, none_due r n low is targeted)
+  none_due r n low (dispatch t k ∷ is) (here, targeted) = (tt, none_due r n low is targeted)
+  none_due r n low (stop t ∷ is) (here, targeted) = (tt, none_due r n low is targeted)
+  none_due r n low (ret ∷ is) (here, targeted) = (tt, none_due r n low is targeted)
+
 -- ---- temporaries
 
 -- a call without arguments and without a result names no temporary
@@ -129,7 +201,7 @@ module _ (core : Core) (r n : ℕ) where
   -- bare instructions name no temporary above a number
   bare_low : (i : Instruction) → IsBare core (view_instruction core r i) → in_instruction i ≤ n
   unfolding in_instruction
-  bare_low (Call id call) (given, receiver) =
+  bare_low (Call id call) (given, receiver, landing) =
       let one = none_given call.given given in
       let other = none_received call.receiver receiver in
       omega (arith, one, other)
@@ -155,7 +227,7 @@ module _ (core : Core) (r n : ℕ) where
 
   -- bare instructions are those that cost little
   bare_light : (i : Instruction) → IsBare core (view_instruction core r i) → IsLight i
-  bare_light (Call id call) (given, receiver) = (no_given call.given given, no_receiver call.receiver receiver)
+  bare_light (Call id call) (given, receiver, landing) = (no_given call.given given, no_receiver call.receiver receiver)
   bare_light Return bare = tt
   bare_light (Act a landing) bare = absurd bare
   bare_light (Jump block) bare = absurd bare

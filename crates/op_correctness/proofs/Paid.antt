@@ -3,7 +3,7 @@
 use Rattle.std.proofs.Common.{◌≡◌, ◌≤◌, ◌<◌, ◌⊎◌, inl, inr, ℕ, ◌+◌, ◌*◌, List, [], ◌∷◌, length, Some, refl, ap, sym, subst, arith}
 use Rattle.std.specs.Prelude.{map, slice_get}
 use Rattle.std.proofs.lemmas.Option.{slice_get_within}
-use Rattle.op_constants.proofs.TypesArranged.{some_at}
+use Rattle.op_core.proofs.Rows.{there_is}
 use Rattle.op_core.specs.Sound.{IsSound, IsSoundNesting}
 use Rattle.op_core.specs.declared.program.Core.{Core}
 use Rattle.op_expand.specs.Routines.{most_charge}
@@ -52,7 +52,7 @@ module _ (core : Core) (mir : Mir) (stack : ℕ) (sound : IsSound core) (nesting
   routine_charged row =
       let low = slice_get_within mir.routines r x row in
       let number = lowers.number in
-      let (y, there) = some_at core.routines r (omega (arith, low, number)) in
+      let (y, there) = there_is core.routines r (omega (arith, low, number)) in
       let (b, body) = body_there core sound is r y there in
       let covers = covers_all core stack r y b there body in
       let told = (lowers.routines r x row).charge in

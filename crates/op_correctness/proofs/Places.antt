@@ -4,7 +4,7 @@ use Rattle.std.specs.Prelude.{◌≤ℤ◌, ◌-ℤ◌, pos, Bool, true, false, 
 use Rattle.std.specs.List.{Contains, list_any}
 use Rattle.std.proofs.lemmas.Bool.Decides.{nat_tests}
 use Rattle.std.proofs.lemmas.Int.{ints}
-use Rattle.std.proofs.lemmas.Option.{slice_get_within}
+use Rattle.std.proofs.lemmas.Option.{none-some, same_Some, slice_get_within}
 use Rattle.op_constants.proofs.Reaching.{field_before}
 use Rattle.op_constants.proofs.SoundFirst.{first_type}
 use Rattle.op_constants.specs.Arranged.{IsSmall}
@@ -21,14 +21,14 @@ use Rattle.op_core.specs.declared.types.IntegerKind.{IntegerKind}
 use Rattle.op_meaning.specs.Paths.{Path, Root, Step, in_global, in_local, through, in_temporary, field, element}
 use Rattle.op_meaning.specs.Shapes.{is_reference, part_type, refers, type_of_local, type_of_row, variables_of}
 use Rattle.op_frames.proofs.SoundSizes.{sizes_small}
-use Rattle.op_typing.proofs.Rows.{none_some, some_and, some_is}
+use Rattle.op_typing.proofs.Rows.{some_and}
 use Rattle.op_typing.proofs.Types.{fits, range_words}
 use Rattle.op_typing.specs.Typed.{HasVariable, PathTo as TypedPath, RootIs as TypedRoot}
 use Rattle.op_agreement.specs.Typed.{AreSmall, HaveWords, IsVariable, PathTo, RootIs}
 
 -- ---- roots
 
-global_in : (ids : List VariableId) (v : ℕ) → Contains ids (record { 0 = v }) → list_any (λ id. nat_eq id.0 v) ids ≡ true
+pub global_in : (ids : List VariableId) (v : ℕ) → Contains ids (record { 0 = v }) → list_any (λ id. nat_eq id.0 v) ids ≡ true
 global_in [] v (k, low, is) = absurd (omega arith)
 global_in (id ∷ ids) v (zero, low, is) =
     let same : id.0 ≡ v = ap (λ (x : VariableId). x.0) is in
@@ -76,16 +76,16 @@ module _ (core : Core) where
     ordered index low high range = by (type_at core index) refl range
       where
         ends : (range : ℤ × ℤ) → Some range ≡ Some (low, high) → int_lt range.1 range.0 ≡ false → int_lt high low ≡ false
-        ends range e below = let same : range ≡ (low, high) = some_is e in subst (λ r. int_lt r.1 r.0 ≡ false) same below
+        ends range e below = let same : range ≡ (low, high) = same_Some _ _ e in subst (λ r. int_lt r.1 r.0 ≡ false) same below
 
         by : (o : Option CoreType) → type_at core index ≡ o → range_of o ≡ Some (low, high) → int_lt high low ≡ false
-        by None is e = absurd (none_some e)
+        by None is e = absurd (none-some _ e)
         by (Some (Integer kind)) is e = ends (integer_range kind) e (kind_below kind)
         by (Some Boolean) is e = ends _ e refl
         by (Some Char) is e = ends _ e refl
         by (Some (Enumeration count)) is e = ends _ e (few_below count (sound.types index.0 (Enumeration count) is).0)
         by (Some (Subrange base least most)) is e = ends (least, most) e (low_below least most (sound.types index.0 (Subrange base least most) is).2)
-        by (Some t) is e = absurd (none_some e)
+        by (Some t) is e = absurd (none-some _ e)
 
     words_of : (of to : TypeId) (steps : List Step) → Reaches core of steps to → HaveWords steps
     words_of of to [] reaches = tt

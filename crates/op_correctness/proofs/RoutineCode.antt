@@ -5,7 +5,7 @@ use Rattle.std.specs.List.{All}
 use Rattle.std.specs.Option.{option_map}
 use Rattle.std.proofs.lemmas.Bool.{eqb-true}
 use Rattle.std.proofs.lemmas.List.{length-map}
-use Rattle.std.proofs.lemmas.Option.{slice_get-map, slice_get_past}
+use Rattle.std.proofs.lemmas.Option.{same_Some, slice_get-map, slice_get_past}
 use Rattle.op_core.specs.Sound.{IsSound, IsSoundNesting}
 use Rattle.op_core.specs.declared.program.Core.{Core}
 use Rattle.op_frames.proofs.Lowered.{some_blocks}
@@ -21,7 +21,7 @@ use Rattle.op_mir.specs.declared.code.Block.{Block}
 use Rattle.op_mir.specs.declared.code.Mir.{Mir}
 use Rattle.op_mir.specs.declared.code.Routine.{Routine}
 use Rattle.op_typing.proofs.CodeTyped.{mir_is_typed}
-use Rattle.op_typing.proofs.Rows.{each_row, some_is}
+use Rattle.op_typing.proofs.Rows.{each_row}
 use Rattle.op_typing.specs.Typed.{AreTypedBlocks, AreTypedInstrs}
 use Rattle.op_agreement.specs.Typed.{AreFine, IsFine, IsPaid}
 use Rattle.op_correctness.proofs.Instructions.{block_fine, each_fine}
@@ -34,7 +34,7 @@ use Rattle.op_correctness.specs.Targets.{IsTargeted}
 -- what holds of each element holds of the one in a place
 pub every_at : {A : Type 0} (Q : A → Type 0) (xs : List A) (k : ℕ) (x : A) → Every Q xs → slice_get xs k ≡ Some x → Q x
 every_at Q [] k x all e = absurd cc
-every_at Q (y ∷ ys) zero x all e = subst Q (some_is e) all.0
+every_at Q (y ∷ ys) zero x all e = subst Q (same_Some _ _ e) all.0
 every_at Q (y ∷ ys) (suc k) x all e = every_at Q ys k x all.1 e
 
 -- the block in a place, as its machine sees it
@@ -53,7 +53,7 @@ module _ (mir : Mir) (r : ℕ) (x : Routine) where
   which found = by (nat_eq r (length mir.routines)) refl found
     where
       by : (own : Bool) → nat_eq r (length mir.routines) ≡ own → (if own then Some mir.program else slice_get mir.routines r) ≡ Some x → IsOwn ⊎ (slice_get mir.routines r ≡ Some x)
-      by true e is = inl (eqb-true r (length mir.routines) e, sym (some_is is))
+      by true e is = inl (eqb-true r (length mir.routines) e, sym (same_Some _ _ is))
       by false e is = inr is
 
 -- a routine without a row has no variables
@@ -66,7 +66,7 @@ module _ (core : Core) (mir : Mir) (stack : ℕ) (sound : IsSound core) (nesting
   own_number number = let count = lowers.number in no_row core r (omega (arith, number, count))
 
   -- it has as many variables as its row says, and the program itself none
-  locals : x.locals ≡ (variables_of core r).count
+  pub locals : x.locals ≡ (variables_of core r).count
   locals = by (which mir r x found)
     where
       by : IsOwn mir r x ⊎ (slice_get mir.routines r ≡ Some x) → x.locals ≡ (variables_of core r).count
@@ -76,17 +76,17 @@ module _ (core : Core) (mir : Mir) (stack : ℕ) (sound : IsSound core) (nesting
       by (inr row) = (lowers.routines r x row).locals
 
   -- its code is typed, leads to its blocks, and names no temporary that it has not
-  typed : AreTypedBlocks core r (seen_blocks core r x.blocks)
+  pub typed : AreTypedBlocks core r (seen_blocks core r x.blocks)
   typed = subst (λ o. AreTypedBlocks core r (view_routine core r o)) found (mir_is_typed core mir stack sound nesting is.simple (lowers.blocks stack) r)
 
-  targeted : Every (IsCode (IsTargeted core r (length x.blocks))) (seen_blocks core r x.blocks)
+  pub targeted : Every (IsCode (IsTargeted core r (length x.blocks))) (seen_blocks core r x.blocks)
   targeted = by (which mir r x found)
     where
       by : IsOwn mir r x ⊎ (slice_get mir.routines r ≡ Some x) → Every (IsCode (IsTargeted core r (length x.blocks))) (seen_blocks core r x.blocks)
       by (inl (number, own)) = subst (λ (y : Routine). Every (IsCode (IsTargeted core r (length y.blocks))) (seen_blocks core r y.blocks)) (sym own) (subst (Every (IsCode (IsTargeted core r (length mir.program.blocks)))) (sym (lowers.program.blocks core r)) (own_targeted core r (length mir.program.blocks) (let count = lowers.number in omega (arith, number, count))))
       by (inr row) = blocks_targeted (IsWithin (2 * nodes core stack r) (2 * nodes core stack r + 1)) core stack r x (lowers.routines r x row) (items_made core stack r (length x.blocks) (is.counted stack r))
 
-  low : Every (λ b. in_block b ≤ x.temporaries) x.blocks
+  pub low : Every (λ b. in_block b ≤ x.temporaries) x.blocks
   low = by (which mir r x found)
     where
       by : IsOwn mir r x ⊎ (slice_get mir.routines r ≡ Some x) → Every (λ b. in_block b ≤ x.temporaries) x.blocks

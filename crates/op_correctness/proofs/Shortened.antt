@@ -1,12 +1,12 @@
 -- Where code goes along that leaves steps out: it is never bad where the other one is not, and what lies between two points costs no more.
-use Rattle.std.proofs.Common.{◌≡◌, ◌≤◌, ℕ, zero, suc, ◌+◌, ◌*◌, refl, sym, ap, ◌∙◌, arith}
+use Rattle.std.proofs.Common.{◌≡◌, ◌≤◌, ℕ, zero, suc, ◌+◌, ◌*◌, ◌++◌, refl, sym, ap, ap₂, ◌∙◌, arith}
 use Rattle.op_low.proofs.MachineLemmas.{stopped_halts}
-use Rattle.op_low.specs.Machine.{NeverBad, cost, low_machine}
+use Rattle.op_low.specs.Machine.{NeverBad, cost, low_machine, shows}
 use Rattle.op_low.specs.State.{Bad, Ended, Ending, Running, State, goes_on}
 use Rattle.op_low.specs.declared.code.Low.{Low}
 use Rattle.op_optimize.specs.Shortening.{Shortens}
-use Rattle.op_simulation.proofs.Runs.{run_add, run_past_end, spent_add, spent_last}
-use Rattle.op_simulation.specs.System.{run, spent}
+use Rattle.op_simulation.proofs.Runs.{run_add, run_past_end, spent_add, spent_last, trace_add, trace_last}
+use Rattle.op_simulation.specs.System.{run, spent, trace}
 use Rattle.op_agreement.proofs.Going.{run_counted}
 use Rattle.op_agreement.specs.Settings.{Setting}
 use Rattle.op_agreement.specs.Steps.{cost_going, counted}
@@ -70,18 +70,20 @@ module _ (g : Setting) (better : Low) (m n : State) (short : Shortens g.low bett
           omega arith
       by (suc (suc more)) is few = absurd (omega arith)
 
-  -- so many steps lie between a point and the one so many steps later, and cost no more
+  -- so many steps lie between a point and the one so many steps later, show the same and cost no more
   pub record Less (i k : ℕ) : Type 0 where
     pub more : ℕ
     pub at : short.point (i + k) ≡ short.point i + more
     pub within : spent (counted improved) more (better_at (short.point i)) ≤ spent (counted g) k (low_at i)
+    pub shown : trace (low_machine better g.placement) more (better_at (short.point i)) ≡ trace (low_machine g.low g.placement) k (low_at i)
 
   pub costs_less : (i k : ℕ) → Less i k
+  unfolding trace
   costs_less i zero =
       let e : i + 0 ≡ i = omega arith in
       let same = ap short.point e in
       let none = spent_none (counted improved) (better_at (short.point i)) in
-      record { more = 0; at = omega arith; within = omega arith }
+      record { more = 0; at = omega arith; within = omega arith; shown = refl }
   costs_less i (suc k) =
       let before = costs_less i k in
       let next = short.next (i + k) in
@@ -97,4 +99,14 @@ module _ (g : Setting) (better : Low) (m n : State) (short : Shortens g.low bett
       let last : spent (counted g) (suc k) (low_at i) ≡ spent (counted g) k (low_at i) + cost_going g (low_at (i + k)) (low_at (i + k)).ending =
       spent_last (counted g) k (low_at i) ∙ ap (λ (s : State). spent (counted g) k (low_at i) + cost_going g s s.ending) (run_counted g k (low_at i) ∙ sym (run_add (low_machine g.low g.placement) i k m)) in
       let step = step_less (i + k) in
-      record { more = before.more + moves; at = omega arith; within = omega arith }
+      let arrived : run (low_machine better g.placement) before.more (better_at (short.point i)) ≡ better_at (short.point (i + k)) = sym (run_counted improved before.more (better_at (short.point i))) ∙ there in
+      record {
+        more = before.more + moves;
+        at = omega arith;
+        within = omega arith;
+        shown =
+            trace_add (low_machine better g.placement) before.more moves (better_at (short.point i))
+            ∙ ap₂ (λ xs s. xs ++ trace (low_machine better g.placement) moves s) before.shown arrived
+            ∙ ap (λ ys. trace (low_machine g.low g.placement) k (low_at i) ++ ys) (short.shown (i + k) ∙ ap (λ (s : State). shows g.placement s.ending s) (run_add (low_machine g.low g.placement) i k m))
+            ∙ sym (trace_last (low_machine g.low g.placement) k (low_at i));
+      }

@@ -1,22 +1,34 @@
 -- Activations of low code take no more of the stack than they are charged.
-use Rattle.std.proofs.Common.{◌≡◌, ◌<◌, ◌≤◌, ℕ, suc, ◌+◌, ◌*◌, ◌++◌, List, [], ◌∷◌, length, replicate, nat_eq, nat_lt, Bool, true, false, Some, slice_get, refl, sym, ap, ◌∙◌, subst, arith, append_assoc, if◌then◌else◌}
+use Rattle.std.proofs.Common.{◌≡◌, ◌<◌, ◌≤◌, ℕ, suc, ◌+◌, ◌*◌, ◌++◌, List, [], ◌∷◌, length, replicate, nat_eq, nat_lt, true, false, Some, slice_get, refl, sym, ap, ◌∙◌, subst, arith, append_assoc, if◌then◌else◌}
 use Rattle.std.proofs.lemmas.Bool.{ne_eqb}
 use Rattle.std.proofs.lemmas.Bool.Decides.{nat_tests}
 use Rattle.std.proofs.lemmas.List.{length-replicate}
 use Rattle.std.proofs.lemmas.Option.{slice_get_within}
-use Rattle.op_constants.proofs.TypesArranged.{some_at}
+use Rattle.op_agreement.proofs.Expanding.{low_found, closing_made}
+use Rattle.op_agreement.specs.Settings.{Setting, AreLiterals}
+use Rattle.op_constants.proofs.Distinct.{number_within}
+use Rattle.op_constants.specs.Literals.{literals_of, routine_literals}
+use Rattle.op_core.proofs.Rows.{there_is}
 use Rattle.op_core.specs.Sound.{IsSound, IsSoundNesting}
 use Rattle.op_core.specs.declared.program.Core.{Core}
+use Rattle.op_correctness.proofs.Fitting.{each_fits, frame_charged, row_of, are_fitting}
+use Rattle.op_correctness.proofs.ProgramCode.{program_fits, program_locals, program_registers}
+use Rattle.op_correctness.proofs.Thinner.{frames_less}
+use Rattle.op_correctness.specs.Charges.{HaveCharges}
+use Rattle.op_correctness.specs.Placed.{setting_by}
+use Rattle.op_correctness.specs.SimpleCore.{IsSimpleCore}
+use Rattle.op_correctness.specs.Spacious.{IsSpacious}
 use Rattle.op_expand.specs.Calls.{runtime, has_closing, closing_number}
 use Rattle.op_expand.specs.Closing.{closing_routines, closing_routine}
 use Rattle.op_expand.specs.Frames.{frame_of, parameters_of}
-use Rattle.op_expand.specs.Homes.{parameter}
-use Rattle.op_expand.specs.Programs.{first_literal, low_of, no_bytes, program_literal, routines_from}
-use Rattle.op_expand.specs.Routines.{behind_blocks, low_parameters, low_routine, most_charge}
-use Rattle.op_frames.proofs.LowFine.{closing_small}
+use Rattle.op_expand.specs.Programs.{low_of, no_bytes, routines_from}
+use Rattle.op_expand.specs.Routines.{low_routine, most_charge}
+use Rattle.op_frames.proofs.CodeFine.{IsNumbered}
+use Rattle.op_frames.proofs.LowFine.{closing_small, own_parameters, parameters_by}
 use Rattle.op_frames.proofs.ProgramFine.{low_frame}
 use Rattle.op_frames.proofs.SoundSizes.{sizes_small}
 use Rattle.op_frames.specs.Fitting.{IsFitting, registers_of_routine}
+use Rattle.op_frames.specs.Made.{Every}
 use Rattle.op_low.specs.State.{routine_of, routine_or, space}
 use Rattle.op_low.specs.Valid.{takes}
 use Rattle.op_low.specs.declared.code.Low.{Low}
@@ -30,29 +42,8 @@ use Rattle.op_optimize.specs.Optimizing.{Optimizes}
 use Rattle.op_rt_text.specs.Runtime.{runtime_routines}
 use Rattle.op_select.specs.Frames.{frame_of as frame_bytes}
 use Rattle.op_select.specs.Going.{Setting as Placed}
-use Rattle.op_agreement.proofs.Expanding.{low_found, closing_made}
-use Rattle.op_agreement.specs.Settings.{Setting}
-use Rattle.op_correctness.proofs.Fitting.{each_fits, frame_charged, row_of, are_fitting}
-use Rattle.op_correctness.proofs.ProgramCode.{program_fits, program_locals, program_registers}
-use Rattle.op_correctness.proofs.Thinner.{frames_less}
-use Rattle.op_correctness.specs.Charges.{HaveCharges}
-use Rattle.op_correctness.specs.Placed.{setting_by}
-use Rattle.op_correctness.specs.SimpleCore.{IsSimpleCore}
-use Rattle.op_correctness.specs.Spacious.{IsSpacious}
 
 -- ---- what is called takes its parameters
-
--- low code of a routine has its parameters, also where it is charged more than a stack may have
-parameters_by : (over : Bool) (core : Core) (mir : Mir) (r id : ℕ) (x : Routine) → nat_lt most_charge x.charge ≡ over → (low_routine core mir r id x).parameters ≡ low_parameters core r
-parameters_by true core mir r id x e = rw e refl
-parameters_by false core mir r id x e = rw e refl
-
--- a routine takes the charge that is left, the address of a result, and its parameters
-own_parameters : (core : Core) (f k : ℕ) → f < length core.routines → k ≡ parameters_of core f → low_parameters core f ≡ suc (suc k)
-own_parameters core f k less e =
-    let other : nat_eq f (length core.routines) ≡ false = ne_eqb f (length core.routines) (λ x. omega arith) in
-    let same : 2 + parameters_of core f ≡ suc (suc k) = omega (arith, e) in
-    ap (λ b. if b then 0 else parameter (parameters_of core f)) other ∙ same
 
 -- it is called with as many arguments
 takes_parameters : (routine : LowRoutine) (n : ℕ) → routine.parameters ≡ n → takes (Some routine) n ≡ true
@@ -66,7 +57,7 @@ at_row mir r x at =
     ap (λ b. if b then Some mir.program else slice_get mir.routines r) other ∙ at
 
 -- the next number is
-at_program : (mir : Mir) → routine_at mir (length mir.routines) ≡ Some mir.program
+pub at_program : (mir : Mir) → routine_at mir (length mir.routines) ≡ Some mir.program
 at_program mir =
     let same : nat_eq (length mir.routines) (length mir.routines) ≡ true = grind (arith, nat_tests) in
     ap (λ b. if b then Some mir.program else slice_get mir.routines (length mir.routines)) same
@@ -85,7 +76,7 @@ module _ (core : Core) (mir : Mir) (stack : ℕ) (sound : IsSound core) (nesting
 
   -- behind the run-time routines stand those of the program, and the program itself
   others : List LowRoutine
-  others = routines_from core mir 0 first_literal mir.routines ++ low_routine core mir (length mir.routines) (program_literal core mir) mir.program ∷ closing_routines core mir stack
+  others = routines_from core mir (literals_of core mir) 0 mir.routines ++ low_routine core mir (literals_of core mir) (length mir.routines) mir.program ∷ closing_routines core mir stack
 
   -- the same routines with as many literals and global variables as are asked for: registers and locals of a routine do not depend on them
   enough_for : (literals : ℕ) → Low
@@ -98,28 +89,33 @@ module _ (core : Core) (mir : Mir) (stack : ℕ) (sound : IsSound core) (nesting
 
   routines_are : g.low.routines ≡ runtime_routines ++ others
   unfolding others
-  routines_are = ap (λ l. l.routines) is_low ∙ append_assoc runtime_routines (routines_from core mir 0 first_literal mir.routines) (low_routine core mir (length mir.routines) (program_literal core mir) mir.program ∷ closing_routines core mir stack)
+  routines_are = ap (λ l. l.routines) is_low ∙ append_assoc runtime_routines (routines_from core mir (literals_of core mir) 0 mir.routines) (low_routine core mir (literals_of core mir) (length mir.routines) mir.program ∷ closing_routines core mir stack)
 
   -- each routine of the program is called with its parameters
   calls : (f k : ℕ) → f < length core.routines → k ≡ parameters_of core f → takes (slice_get g.low.routines (runtime + f)) (suc (suc k)) ≡ true
   calls f k less e =
       let number = lowers.number in
-      let (x, at) = some_at mir.routines f (omega (arith, less, number)) in
+      let (x, at) = there_is mir.routines f (omega (arith, less, number)) in
       let found = low_found g is_low f x (at_row mir f x at) in
-      let parameters : (low_routine core mir f found.id x).parameters ≡ suc (suc k) = parameters_by (nat_lt most_charge x.charge) core mir f found.id x refl ∙ own_parameters core f k less e in
-      subst (λ o. takes o (suc (suc k)) ≡ true) (sym found.at) (takes_parameters (low_routine core mir f found.id x) (suc (suc k)) parameters)
+      let parameters : (low_routine core mir (literals_of core mir) f x).parameters ≡ suc (suc k) = parameters_by (nat_lt most_charge x.charge) core mir (literals_of core mir) f x refl ∙ own_parameters core f k less e in
+      subst (λ o. takes o (suc (suc k)) ≡ true) (sym found.at) (takes_parameters (low_routine core mir (literals_of core mir) f x) (suc (suc k)) parameters)
 
   -- and so is the closing
   ends : has_closing core ≡ true → takes (slice_get g.low.routines (closing_number core)) 2 ≡ true
   ends closes = subst (λ o. takes o 2 ≡ true) (sym (closing_made g is_low closes lowers.number)) refl
 
-  -- a routine of low code that fits has no more registers than are counted, and the locals of its frame
-  routine_small : (r id : ℕ) (x : Routine) → IsFitting core r x → x.charge ≤ most_charge → ((low_routine core mir r id x).registers ≤ registers_of_routine core r x) × ((low_routine core mir r id x).locals ≡ (frame_of core r x).locals)
+  -- what it takes is among these literals
+  all_numbered : (texts : List (List ℕ)) → AreLiterals (literals_of core mir) texts → Every (IsNumbered (enough_for (length (literals_of core mir))) (literals_of core mir)) texts
   unfolding enough_for
-  routine_small r id x fits charge =
-      let literals = behind_blocks core r id x.blocks in
+  all_numbered [] are = tt
+  all_numbered (text ∷ texts) are = let less = number_within (literals_of core mir) text are.0 in (omega (arith, less), all_numbered texts are.1)
+
+  -- a routine of low code that fits has no more registers than are counted, and the locals of its frame
+  routine_small : (r : ℕ) (x : Routine) → IsFitting core r x → x.charge ≤ most_charge → AreLiterals (literals_of core mir) (routine_literals core r x) → ((low_routine core mir (literals_of core mir) r x).registers ≤ registers_of_routine core r x) × ((low_routine core mir (literals_of core mir) r x).locals ≡ (frame_of core r x).locals)
+  unfolding enough_for
+  routine_small r x fits charge literals =
       let many : length (replicate (suc (length core.variables)) no_bytes) ≡ suc (length core.variables) = length-replicate (suc (length core.variables)) no_bytes in
-      low_frame (enough_for literals) core mir (sizes_small core sound) others routines_are (omega (arith, many)) (omega arith) calls ends r id x fits (omega arith) charge
+      low_frame (enough_for (length (literals_of core mir))) core mir (sizes_small core sound) others routines_are (omega (arith, many)) (omega arith) calls ends r (literals_of core mir) x fits (all_numbered (routine_literals core r x) literals) charge
 
   -- what is placed has no larger frames than the low code as it was expanded
   as_expanded : (r : ℕ) → space g.low g.placement r ≤ (routine_of g.low r).locals + 4 * ((routine_of g.low r).registers + 1)
@@ -127,12 +123,12 @@ module _ (core : Core) (mir : Mir) (stack : ℕ) (sound : IsSound core) (nesting
   as_expanded r = let less = frames_less g.low w.low (thins g.low w.low optimizes) r in omega (arith, less)
 
   -- what an activation of it takes
-  space_of : (r : ℕ) (x : Routine) → routine_at mir r ≡ Some x → IsFitting core r x → x.charge ≤ most_charge → space g.low g.placement (runtime + r) ≤ (frame_of core r x).locals + 4 * (registers_of_routine core r x + 1)
+  pub space_of : (r : ℕ) (x : Routine) → routine_at mir r ≡ Some x → IsFitting core r x → x.charge ≤ most_charge → space g.low g.placement (runtime + r) ≤ (frame_of core r x).locals + 4 * (registers_of_routine core r x + 1)
   space_of r x found fits charge =
       let stands = low_found g is_low r x found in
-      let same : routine_of g.low (runtime + r) ≡ low_routine core mir r stands.id x = ap routine_or stands.at in
-      let (registers, locals) = routine_small r stands.id x fits charge in
-      let taken : space g.low g.placement (runtime + r) ≤ (low_routine core mir r stands.id x).locals + 4 * ((low_routine core mir r stands.id x).registers + 1) = subst (λ (y : LowRoutine). space g.low g.placement (runtime + r) ≤ y.locals + 4 * (y.registers + 1)) same (as_expanded (runtime + r)) in
+      let same : routine_of g.low (runtime + r) ≡ low_routine core mir (literals_of core mir) r x = ap routine_or stands.at in
+      let (registers, locals) = routine_small r x fits charge stands.literals in
+      let taken : space g.low g.placement (runtime + r) ≤ (low_routine core mir (literals_of core mir) r x).locals + 4 * ((low_routine core mir (literals_of core mir) r x).registers + 1) = subst (λ (y : LowRoutine). space g.low g.placement (runtime + r) ≤ y.locals + 4 * (y.registers + 1)) same (as_expanded (runtime + r)) in
       omega (arith, taken, registers, locals)
 
   -- ---- what is proved

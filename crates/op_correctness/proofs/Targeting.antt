@@ -1,5 +1,5 @@
 -- The branches of code that is made of items lead to its blocks.
-use Rattle.std.proofs.Common.{◌<◌, ℕ, Bool, true, false, List, [], ◌∷◌, length}
+use Rattle.std.proofs.Common.{◌<◌, ℕ, Bool, true, false, List, [], ◌∷◌, length, refl}
 use Rattle.op_core.specs.declared.program.Core.{Core}
 use Rattle.op_frames.proofs.Lowered.{code_is}
 use Rattle.op_frames.specs.Made.{AreMade, AreMadeCases, AreMadeTurns, ArmsOf, Every, IsCode, IsMade}
@@ -33,15 +33,15 @@ module _ (Q : Instr → Type 0) (core : Core) (r n : ℕ) where
     targeted (then_do i others) (first, rest) = (item_targeted i first, targeted others rest)
 
     item_targeted : (i : Item) → IsMade Q n i → IsMade (IsTargeted core r n) n i
-    item_targeted (act a) made = tt
+    item_targeted (act a) made = refl
     item_targeted (also truth t items) (branch, made) = (λ k some less. unless_targeted core r n truth t k some less, targeted items made)
     item_targeted (choose t first otherwise) (branch, one, other) = (λ k some less. (some, less), targeted first one, targeted otherwise other)
     item_targeted (select t cs otherwise) (branch, ones, other) = (λ arms are. arms_targeted n cs arms are, cases_targeted cs ones, targeted otherwise other)
     item_targeted (loop l) made = turns_targeted l made
     item_targeted (body_first l) made = turns_targeted l made
-    item_targeted (protect t keep items finalization) (reasons, way, made, last) = (λ m few. tt, λ k less. less, targeted items made, targeted finalization last)
+    item_targeted (protect t keep items finalization) (reasons, way, made, last) = (λ m few. refl, λ k less. less, targeted items made, targeted finalization last)
     item_targeted (leave what) made = made
-    item_targeted (enter r given receiver) made = tt
+    item_targeted (enter r given receiver) made = refl
     item_targeted (halt t) made = tt
     item_targeted (finish keep) made = absurd made
     item_targeted (attempt keep items cs) made = absurd made

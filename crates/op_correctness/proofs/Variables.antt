@@ -1,8 +1,10 @@
 -- The rows of a routine's variables fit its code, in a sound program that works on numbers, sets, records and arrays with bounds.
 use Rattle.std.proofs.Common.{◌≡◌, ◌≤◌, ◌<◌, ℕ, ◌+◌, length, Option, Some, None, refl, sym, ap, ◌∙◌, subst, arith}
 use Rattle.std.specs.Prelude.{true, false, slice_get}
-use Rattle.op_constants.proofs.TypesArranged.{many_rows, some_at}
+use Rattle.std.proofs.lemmas.Option.{none-some}
+use Rattle.op_constants.proofs.TypesArranged.{many_rows}
 use Rattle.op_constants.specs.Arranged.{IsSmall}
+use Rattle.op_core.proofs.Rows.{row_at, there_is}
 use Rattle.op_core.specs.Rows.{rows}
 use Rattle.op_core.specs.Sound.{IsSound, IsSoundNesting}
 use Rattle.op_core.specs.declared.program.Core.{Core}
@@ -17,7 +19,7 @@ use Rattle.op_mir.specs.declared.code.Mir.{Mir}
 use Rattle.op_mir.specs.declared.code.Routine.{Routine}
 use Rattle.op_typing.proofs.Callees.{parameters_first}
 use Rattle.op_typing.proofs.Paths.{reference_low, routine}
-use Rattle.op_typing.proofs.Rows.{each_row, if_some, none_some, row_at}
+use Rattle.op_typing.proofs.Rows.{each_row, if_some}
 use Rattle.op_typing.proofs.Types.{solid_small}
 use Rattle.op_typing.specs.Simple.{IsSimpleProgram, IsSimpleRoutine, IsSolidType}
 use Rattle.op_agreement.proofs.Naming.{has_variables}
@@ -37,7 +39,7 @@ module _ (core : Core) (sound : IsSound core) (simple : IsSimpleProgram core) wh
   results_small q of e = by (slice_get core.routines q) refl e
     where
       by : (o : Option Row) → slice_get core.routines q ≡ o → result_of o ≡ Some of → IsSmall core of
-      by None is e = absurd (none_some e)
+      by None is e = absurd (none-some _ e)
       by (Some y) is e =
           let row = each_row (IsSimpleRoutine core) core.routines q y simple.routines is in
           solid_small core sound of (if_some y.result (IsSolidType core) of row.result e)
@@ -73,7 +75,7 @@ module _ (core : Core) (sound : IsSound core) (simple : IsSimpleProgram core) wh
     variables_small : (v : ℕ) → IsVariable core r v false → IsSmall core (type_of_local core r v)
     variables_small v (few, own) =
         let within = fit in
-        let (w, row) = some_at core.variables ((variables_of core r).first + v) (omega (arith, few, within)) in
+        let (w, row) = there_is core.variables ((variables_of core r).first + v) (omega (arith, few, within)) in
         let solid = each_row (λ w. IsSolidType core w.of) core.variables ((variables_of core r).first + v) w simple.variables row in
         subst (IsSmall core) (sym (ap type_of_row row)) (solid_small core sound w.of solid)
 

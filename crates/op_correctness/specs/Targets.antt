@@ -1,5 +1,5 @@
--- Where branches lead: to blocks that are there, and none to the first one.
-use Rattle.std.specs.Prelude.{◌≡◌, ◌<◌, ℕ, ◌+◌, length, true}
+-- Where branches lead: to blocks that are there, and none to the first one. No instruction has a block where an exception goes on.
+use Rattle.std.specs.Prelude.{◌≡◌, ◌<◌, ℕ, ◌+◌, length, None, true}
 use Rattle.op_core.specs.declared.program.Core.{Core}
 use Rattle.op_expand.specs.Calls.{has_closing}
 use Rattle.op_frames.specs.Made.{Every}
@@ -10,8 +10,8 @@ IsTargetNumber blocks k = (0 < k) × (k < blocks)
 
 -- in code of so many blocks; only in that of the program itself a finalization part becomes due
 abbrev pub IsTargeted : Core → (r blocks : ℕ) → Instr → Type 0
-IsTargeted core r blocks (do_act a landing) = Unit {0}
-IsTargeted core r blocks (do_call q given receiver landing) = Unit {0}
+IsTargeted core r blocks (do_act a landing) = landing ≡ None
+IsTargeted core r blocks (do_call q given receiver landing) = landing ≡ None
 IsTargeted core r blocks (jump k) = IsTargetNumber blocks k
 IsTargeted core r blocks (when t k) = IsTargetNumber blocks k
 IsTargeted core r blocks (unless t k) = IsTargetNumber blocks k

@@ -1,7 +1,7 @@
 -- Steps of the code as steps of the definition.
-use Rattle.std.proofs.Common.{◌≡◌, ◌≢◌, ℕ, ◌+◌, ◌%◌, ◌^◌, rules, Bool, true, false, nat_eq, if◌then◌else◌, Option, Some, None, List, [], ◌++◌, refl, ap, sym, ◌∙◌, subst, arith, inl, inr, append_assoc, zero, suc}
+use Rattle.std.proofs.Common.{◌≡◌, ◌≢◌, ℕ, ◌+◌, ◌%◌, ◌^◌, rules, Bool, true, false, nat_eq, if◌then◌else◌, Option, Some, None, List, [], ◌++◌, refl, ap, sym, ◌∙◌, subst, inl, inr, append_assoc, zero, suc}
+use Rattle.std.proofs.lemmas.Bool.{ne_eqb}
 use Rattle.std.proofs.lemmas.List.{append-nil}
-use Rattle.std.proofs.lemmas.Bool.Decides.{nat_tests}
 use Rattle.op_base.specs.Outside.{appended, preceded, AppendsFront}
 use Rattle.op_rv.specs.declared.fault.FaultKind.{FaultKind}
 use Rattle.op_rv.specs.declared.fault.FaultKind.TheVariants.{Fetch, Illegal, Load, Store, Call}
@@ -9,14 +9,14 @@ use Rattle.op_rv.specs.declared.instruction.Instr.{Instr}
 use Rattle.op_rv.specs.declared.instruction.Instr.TheVariants.{Ecall}
 use Rattle.op_rv.specs.State.{State, Running, Ended, Faulted, register, faulted, word_at, bytes_from}
 use Rattle.op_rv.specs.Decoding.{instr_at}
-use Rattle.op_rv.specs.Environment.{environment_call, read_call, write_call, exit_call, is_readable, is_writable, returned}
+use Rattle.op_rv.specs.Environment.{environment_call, read_call, write_call, is_readable, is_writable, returned}
 use Rattle.op_rv.specs.Step.{act, running_step, step, step_by_ending, after, performed, can_fetch}
 use Rattle.op_emu.specs.declared.hart.Hart.{Hart}
 use Rattle.op_emu.specs.declared.stop.Stepped.{Stepped}
 use Rattle.op_emu.specs.declared.stop.Stepped.TheVariants.{Went, Fault, ReadFault, WriteFault}
 use Rattle.op_emu.specs.declared.stop.Stepped.TheVariants as stepped
 use Rattle.op_emu.specs.Registers.{value_of, with_value}
-use Rattle.op_emu.specs.Acts.{Moment, moment, state_of, sets, Streams, Faults, MayFollow, Takes, Acts, ActsInPart, ReadsInPart, StepIs, Leads, RowIs, WriteIs, handed_bytes, streams}
+use Rattle.op_emu.specs.Acts.{Moment, moment, state_of, sets, Streams, Faults, MayFollow, Takes, Acts, ReadsInPart, WritesInPart, StepIs, FailsToWrite, Leads, RowIs, WriteIs, handed_bytes, streams}
 use Rattle.op_emu.proofs.FillingLemmas.{bytes_append, no_bytes, nothing_preceded, preceded-append}
 use Rattle.op_emu.proofs.Stretches.{appended-nil, appended-append, AppendsFront-after}
 
@@ -65,6 +65,18 @@ Acts-same f g old new told same acts =
       errors = acts.errors;
     }
 
+-- the call began to do this, each output got a front of what it would have got, and this is left of the input
+pub record ActsInPart (f : State → State) (old : Moment) (new : Hart) (told : Streams) : Type 0 where
+  pub taken : List ℕ
+  pub written : List ℕ
+  pub reported : List ℕ
+  pub writes : (x o e : List ℕ) → MayFollow new x → (f (state_of old (taken ++ x) o e)).output ≡ o ++ written
+  pub reports : (x o e : List ℕ) → MayFollow new x → (f (state_of old (taken ++ x) o e)).errors ≡ e ++ reported
+  pub leaves : (x o e : List ℕ) → MayFollow new x → (f (state_of old (taken ++ x) o e)).input ≡ x
+  pub input : Takes taken old.hart new told.input_before told.input_after
+  pub output : AppendsFront told.output_before written told.output_after
+  pub errors : AppendsFront told.errors_before reported told.errors_after
+
 ActsInPart-same : (f g : State → State) (old : Moment) (new : Hart) (told : Streams) → ((x o e : List ℕ) → g (state_of old x o e) ≡ f (state_of old x o e)) → ActsInPart f old new told → ActsInPart g old new told
 ActsInPart-same f g old new told same acts =
     record {
@@ -73,6 +85,7 @@ ActsInPart-same f g old new told same acts =
       reported = acts.reported;
       writes = λ x o e may. ap (λ s. s.output) (same (acts.taken ++ x) o e) ∙ acts.writes x o e may;
       reports = λ x o e may. ap (λ s. s.errors) (same (acts.taken ++ x) o e) ∙ acts.reports x o e may;
+      leaves = λ x o e may. ap (λ s. s.input) (same (acts.taken ++ x) o e) ∙ acts.leaves x o e may;
       input = acts.input;
       output = acts.output;
       errors = acts.errors;
@@ -90,13 +103,23 @@ ReadsInPart-same f g old told same acts =
       errors = acts.errors;
     }
 
+WritesInPart-same : (f g : State → State) (old new : Hart) (told : Streams) (counts : Faults) → ((x o e : List ℕ) → g (state_of (moment old Running) x o e) ≡ f (state_of (moment old Running) x o e)) → WritesInPart f old new told counts → WritesInPart g old new told counts
+WritesInPart-same f g old new told counts same acts =
+    record {
+      writes = λ x o e. same x o e ∙ acts.writes x o e;
+      may = acts.may;
+      stays = acts.stays;
+      input = acts.input;
+      fails = acts.fails;
+    }
+
 -- one function of states for another that does the same here
 pub StepIs-same : (f g : State → State) (r : Stepped) (old new : Hart) (told : Streams) (counts : Faults) → ((x o e : List ℕ) → g (state_of (moment old Running) x o e) ≡ f (state_of (moment old Running) x o e)) → StepIs f r old new told counts → StepIs g r old new told counts
 StepIs-same f g Went old new told counts same is = Acts-same f g (moment old Running) (moment new Running) told same is
 StepIs-same f g (stepped.Ended k) old new told counts same is = Acts-same f g (moment old Running) (moment new (Ended k)) told same is
 StepIs-same f g (Fault kind pc) old new told counts same is = Acts-same f g (moment old Running) (moment new (Faulted kind pc)) told same is
 StepIs-same f g ReadFault old new told counts same is = (ReadsInPart-same f g old told same is.0, is.1)
-StepIs-same f g WriteFault old new told counts same is = (ActsInPart-same f g (moment old Running) new told same is.0, is.1)
+StepIs-same f g WriteFault old new told counts same is = WritesInPart-same f g old new told counts same is
 
 -- a step that touches no stream
 pub StepIs-row : (f : State → State) (r : Stepped) (old new : Hart) (i o e : Option (List ℕ)) (counts : Faults) → RowIs f r old new → StepIs f r old new (streams i i o o e e) counts
@@ -130,31 +153,15 @@ by_false b x y is = ap (λ b. if b then x else y) is
 pub by_true : {X : Type 0} (b : Bool) (x y : X) → b ≡ true → (if b then x else y) ≡ x
 by_true b x y is = ap (λ b. if b then x else y) is
 
-differs : (m n : ℕ) → m ≢ n → nat_eq m n ≡ false
-differs m n h = grind (arith, nat_tests)
-
-pub environment_call-read : (s : State) → register s 17 ≡ 63 → environment_call s ≡ read_call s
-unfolding environment_call
-environment_call-read s is = by_true _ _ _ (ap (λ v. nat_eq v 63) is)
-
-pub environment_call-write : (s : State) → register s 17 ≡ 64 → environment_call s ≡ write_call s
-unfolding environment_call
-environment_call-write s is = by_false _ _ _ (ap (λ v. nat_eq v 63) is) ∙ by_true _ _ _ (ap (λ v. nat_eq v 64) is)
-
-pub environment_call-exit : (s : State) → register s 17 ≡ 93 → environment_call s ≡ exit_call s
-unfolding environment_call
-environment_call-exit s is =
-    by_false _ _ _ (ap (λ v. nat_eq v 63) is) ∙ (by_false _ _ _ (ap (λ v. nat_eq v 64) is) ∙ by_true _ _ _ (ap (λ v. nat_eq v 93) is))
-
 pub environment_call-other : (s : State) → register s 17 ≢ 63 → register s 17 ≢ 64 → register s 17 ≢ 93 → environment_call s ≡ faulted Call s
 unfolding environment_call
 environment_call-other s no_read no_write no_exit =
-    by_false _ _ _ (differs _ 63 no_read)
-    ∙ (by_false _ _ _ (differs _ 64 no_write) ∙ by_false _ _ _ (differs _ 93 no_exit))
+    by_false _ _ _ (ne_eqb _ 63 no_read)
+    ∙ (by_false _ _ _ (ne_eqb _ 64 no_write) ∙ by_false _ _ _ (ne_eqb _ 93 no_exit))
 
 pub read_call-other : (s : State) → register s 10 ≢ 0 → read_call s ≡ faulted Call s
 unfolding read_call
-read_call-other s no_input = by_false _ _ _ (differs _ 0 no_input)
+read_call-other s no_input = by_false _ _ _ (ne_eqb _ 0 no_input)
 
 pub read_call-unwritable : (s : State) → register s 10 ≡ 0 → is_writable s ≡ false → read_call s ≡ faulted Store s
 unfolding read_call
@@ -162,7 +169,7 @@ read_call-unwritable s is may = by_true _ _ _ (ap (λ v. nat_eq v 0) is) ∙ by_
 
 pub write_call-other : (s : State) → register s 10 ≢ 1 → register s 10 ≢ 2 → write_call s ≡ faulted Call s
 unfolding write_call
-write_call-other s no_out no_err = by_false _ _ _ (differs _ 1 no_out) ∙ by_false _ _ _ (differs _ 2 no_err)
+write_call-other s no_out no_err = by_false _ _ _ (ne_eqb _ 1 no_out) ∙ by_false _ _ _ (ne_eqb _ 2 no_err)
 
 pub write_call-out : (s : State) → register s 10 ≡ 1 → is_readable s ≡ true → write_call s ≡ record (returned (register s 12) s) { output = s.output ++ bytes_from s.memory (register s 11) (register s 12) }
 unfolding write_call
@@ -210,20 +217,7 @@ StepIs-out (Fault kind pc) old new i o o' e counts is (may, load, at, same, told
     in
     subst (λ r. StepIs write_call r old new (streams i i o o' e e) counts) (sym (same_fault kind Load pc old.pc load at)) (subst (λ new. StepIs write_call (Fault Load old.pc) old new (streams i i o o' e e) counts) (sym same) (subst (λ o'. StepIs write_call (Fault Load old.pc) old old (streams i i o o' e e) counts) (sym told) here))
 StepIs-out ReadFault old new i o o' e counts is h = absurd h
-StepIs-out WriteFault old new i o o' e counts is (may, front, rose, same) = (
-  record {
-    taken = [];
-    written = handed_bytes old;
-    reported = [];
-    writes = λ x out err _. ap (λ s. s.output) (write_call-out (state_of (moment old Running) x out err) is may);
-    reports = λ x out err _.
-        ap (λ s. s.errors) (write_call-out (state_of (moment old Running) x out err) is may) ∙ sym (append-nil err);
-    input = Takes-none old new i (kept old new same);
-    output = front;
-    errors = nothing_in_front e;
-  },
-  inl rose,
-)
+StepIs-out WriteFault old new i o o' e counts is (may, front, rose, same) = record { writes = λ x out err. refl; may = may; stays = same; input = refl; fails = inl (is, front, refl, rose) }
 
 -- a write to the errors, as a step
 pub StepIs-err : (r : Stepped) (old new : Hart) (i o e e' : Option (List ℕ)) (counts : Faults) → value_of old.registers.words 10 ≡ 2 → WriteIs r old new e e' counts.errors_before counts.errors_after → StepIs write_call r old new (streams i i o o e e') counts
@@ -247,20 +241,7 @@ StepIs-err (Fault kind pc) old new i o e e' counts is (may, load, at, same, told
     in
     subst (λ r. StepIs write_call r old new (streams i i o o e e') counts) (sym (same_fault kind Load pc old.pc load at)) (subst (λ new. StepIs write_call (Fault Load old.pc) old new (streams i i o o e e') counts) (sym same) (subst (λ e'. StepIs write_call (Fault Load old.pc) old old (streams i i o o e e') counts) (sym told) here))
 StepIs-err ReadFault old new i o e e' counts is h = absurd h
-StepIs-err WriteFault old new i o e e' counts is (may, front, rose, same) = (
-  record {
-    taken = [];
-    written = [];
-    reported = handed_bytes old;
-    writes = λ x out err _.
-        ap (λ s. s.output) (write_call-err (state_of (moment old Running) x out err) is may) ∙ sym (append-nil out);
-    reports = λ x out err _. ap (λ s. s.errors) (write_call-err (state_of (moment old Running) x out err) is may);
-    input = Takes-none old new i (kept old new same);
-    output = nothing_in_front o;
-    errors = front;
-  },
-  inr rose,
-)
+StepIs-err WriteFault old new i o e e' counts is (may, front, rose, same) = record { writes = λ x out err. refl; may = may; stays = same; input = refl; fails = inr (is, front, refl, rose) }
 
 -- the step of a word with a row
 pub running_step-row : (s : State) (i : Instr) (word : ℕ) → can_fetch s ≡ true → word ≡ word_at s.memory s.pc → instr_at word ≡ Some i → running_step s ≡ act i s
@@ -306,6 +287,37 @@ module _ (a b : Hart) (i i' i'' : Option (List ℕ)) (taken taken' : List ℕ) (
       let later = next.stays_ended ended in
       ap (λ xs. xs ++ x) later.0 ∙ may later.1
 
+-- a write that fails has begun
+pub begins_to_write : (f : State → State) (hart : Hart) (told : Streams) (counts : Faults) → WritesInPart f hart hart told counts → ActsInPart f (moment hart Running) hart told
+begins_to_write f hart told counts w = by w.fails
+  where
+    nothing_read : Takes [] hart hart told.input_before told.input_after
+    nothing_read = subst (λ i. Takes [] hart hart told.input_before i) (sym w.input) (Takes-none hart hart told.input_before refl)
+
+    by : FailsToWrite (value_of hart.registers.words 10) (handed_bytes hart) told counts → ActsInPart f (moment hart Running) hart told
+    by (inl (is, front, same, rose)) = record {
+      taken = [];
+      written = handed_bytes hart;
+      reported = [];
+      writes = λ x o e _. ap (λ s. s.output) (w.writes x o e ∙ write_call-out (state_of (moment hart Running) x o e) is w.may);
+      reports = λ x o e _. ap (λ s. s.errors) (w.writes x o e ∙ write_call-out (state_of (moment hart Running) x o e) is w.may) ∙ sym (append-nil e);
+      leaves = λ x o e _. ap (λ s. s.input) (w.writes x o e ∙ write_call-out (state_of (moment hart Running) x o e) is w.may);
+      input = nothing_read;
+      output = front;
+      errors = subst (λ e. AppendsFront told.errors_before [] e) (sym same) (nothing_in_front told.errors_before);
+    }
+    by (inr (is, front, same, rose)) = record {
+      taken = [];
+      written = [];
+      reported = handed_bytes hart;
+      writes = λ x o e _. ap (λ s. s.output) (w.writes x o e ∙ write_call-err (state_of (moment hart Running) x o e) is w.may) ∙ sym (append-nil o);
+      reports = λ x o e _. ap (λ s. s.errors) (w.writes x o e ∙ write_call-err (state_of (moment hart Running) x o e) is w.may);
+      leaves = λ x o e _. ap (λ s. s.input) (w.writes x o e ∙ write_call-err (state_of (moment hart Running) x o e) is w.may);
+      input = nothing_read;
+      output = subst (λ o. AppendsFront told.output_before [] o) (sym same) (nothing_in_front told.output_before);
+      errors = front;
+    }
+
 -- one after the other
 module _ (f g : State → State) (a b : Moment) (i i' i'' o o' o'' e e' e'' : Option (List ℕ)) where
   unfoldable pub Acts-then : (c : Moment) → Acts f a b (streams i i' o o' e e') → Acts g b c (streams i' i'' o' o'' e' e'') → Acts (λ s. g (f s)) a c (streams i i'' o o'' e e'')
@@ -341,6 +353,10 @@ module _ (f g : State → State) (a b : Moment) (i i' i'' o o' o'' e e' e'' : Op
             ∙ ap (λ s. (g s).errors) (first.leads (next.taken ++ x) out err (may_follow a.hart b.hart i i' i'' first.taken next.taken first.input c x next.input may))
             ∙ next.reports x (out ++ first.written) (err ++ first.reported) may
             ∙ append_assoc err first.reported next.reported;
+        leaves = λ x out err may.
+            ap (λ input. (g (f (state_of a input out err))).input) (append_assoc first.taken next.taken x)
+            ∙ ap (λ s. (g s).input) (first.leads (next.taken ++ x) out err (may_follow a.hart b.hart i i' i'' first.taken next.taken first.input c x next.input may))
+            ∙ next.leaves x (out ++ first.written) (err ++ first.reported) may;
         input = Takes-then a.hart b.hart i i' i'' first.taken next.taken first.input c next.input;
         output = AppendsFront-after o o' o'' first.written next.written first.output next.output;
         errors = AppendsFront-after e e' e'' first.reported next.reported first.errors next.errors;

@@ -1,7 +1,7 @@
 -- Words that were decoded ahead: where they stand, and that they still do after a write.
 use Rattle.std.proofs.Common.{◌≡◌, ℕ, zero, suc, ◌+◌, ◌-◌, ◌*◌, ◌%◌, ◌<◌, ◌≤◌, Bool, true, false, List, [], ◌∷◌, ◌++◌, Some, length, get_or, set, map, IsTrue, refl, ap, sym, ◌∙◌, subst, arith, ⊎_elim, length-append}
 use Rattle.std.proofs.lemmas.List.{get_or-map, get_or_append_left, get_or-append_right}
-use Rattle.std.proofs.lemmas.Bool.{false≢true, cases_lt}
+use Rattle.std.proofs.lemmas.Bool.{false≢true, cases_lt, false_from_ne_true, cond-false}
 use Rattle.std.proofs.lemmas.Bool.Decides.{nat_tests}
 use Rattle.op_rv.specs.State.{word_at, half_at, all_from}
 use Rattle.op_rv.specs.Encoding.{fits}
@@ -19,11 +19,7 @@ use Rattle.op_emu.specs.declared.memory.Segment.{Segment}
 use Rattle.op_emu.specs.declared.row.Row.{Row}
 use Rattle.op_emu.specs.declared.row.Row.TheVariants.{Other}
 use Rattle.op_emu.proofs.Regions.{within, right_in-found, byte_in-found, same_word, word_of_found, word_in_found, all_allowed-within}
-use Rattle.op_emu.proofs.Writing.{is_written, written_from, written_up_to, cond_false, region_at-place, length-regions_of, place_within, found_there, apart_after, written_after, set_same}
-
-not_true : (b : Bool) → (b ≡ true → ⊥) → b ≡ false
-not_true true h = absurd (h refl)
-not_true false h = refl
+use Rattle.op_emu.proofs.Writing.{is_written, written_from, written_up_to, region_at-place, length-regions_of, place_within, found_there, apart_after, written_after, set_same}
 
 pub accessed : (right : ℕ → Bool) (a size : ℕ) → a % size ≡ 0 → all_from right a size ≡ true → can_access right a size ≡ true
 accessed right a size aligned all = grind (arith, nat_tests)
@@ -32,11 +28,11 @@ accessed right a size aligned all = grind (arith, nat_tests)
 module _ (rs rs' : List Region) (at : ℕ) (bytes : List ℕ) (written : IsWritten rs rs' at bytes) (may : (x : ℕ) → at ≤ x → x < at + length bytes → writable_in rs x ≡ true) where
   outside : (x : ℕ) → writable_in rs x ≡ false → is_written at (length bytes) x ≡ false
   outside x fixed =
-      not_true (is_written at (length bytes) x) (λ is. false≢true (sym fixed ∙ may x (written_from at (length bytes) x is) (written_up_to at (length bytes) x is)))
+      false_from_ne_true (is_written at (length bytes) x) (λ is. false≢true (sym fixed ∙ may x (written_from at (length bytes) x is) (written_up_to at (length bytes) x is)))
 
   byte_kept : (x : ℕ) → writable_in rs x ≡ false → byte_in rs' x ≡ byte_in rs x
   byte_kept x fixed =
-      ap (λ memory. memory x) written.memory ∙ cond_false _ (get_or bytes (x - at) 0) (byte_in rs x) (outside x fixed)
+      ap (λ memory. memory x) written.memory ∙ cond-false _ (get_or bytes (x - at) 0) (byte_in rs x) (outside x fixed)
 
   Stands-kept : (a : ℕ) (i : Instr) → Stands rs a i → Stands rs' a i
   Stands-kept a i s =

@@ -87,7 +87,7 @@ Goes-same f words words' words'' pc pc' rs rs' rs'' goes is_words is_rs x o e =
     ∙ ap (λ words. running words pc' rs' x o e) (sym is_words)
     ∙ ap (λ rs. running words'' pc' rs x o e) (sym is_rs)
 
-after-add : (m n : ℕ) (s : State) → after (m + n) s ≡ after n (after m s)
+pub after-add : (m n : ℕ) (s : State) → after (m + n) s ≡ after n (after m s)
 unfolding after
 after-add zero n s = let e : zero + n ≡ n = omega arith in ap (λ k. after k s) e
 after-add (suc m) n s = let e : suc m + n ≡ suc (m + n) = omega arith in ap (λ k. after k s) e ∙ after-add m n (step s)

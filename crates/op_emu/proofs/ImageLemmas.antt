@@ -1,8 +1,9 @@
 -- The segments of images that meet the conditions, in memory.
-use Rattle.std.proofs.Common.{◌≡◌, ℕ, ◌+◌, ◌-◌, ◌≤◌, Bool, true, ◌&&◌, nat_eq, None, Some, List, [], ◌∷◌, ◌++◌, length, get_or, map, take, drop, slice_get, replicate, refl, ap, sym, ◌∙◌, arith, length-append, length-drop}
+use Rattle.std.proofs.Common.{◌≡◌, ℕ, ◌+◌, ◌-◌, ◌≤◌, true, nat_eq, None, Some, List, [], ◌∷◌, ◌++◌, length, get_or, map, take, drop, slice_get, replicate, refl, ap, sym, ◌∙◌, arith, length-append, length-drop}
 use Rattle.std.proofs.lemmas.Bool.Decides.{nat_tests}
 use Rattle.std.proofs.lemmas.List.{length-take-le, length-replicate, length-map, map-append, take_more, take_all}
 use Rattle.std.proofs.lemmas.Option.{get_or_from_slice_get, slice_get_within}
+use Rattle.std.specs.Cmp.{first_so, second_so}
 use Rattle.std.specs.List.{list_all}
 use Rattle.op_rv.specs.State.{State, Running}
 use Rattle.op_link.specs.Image.{number_in, entry_in, headers, segments, memory_range, region_in, regions_in, has_file_bytes, is_loadable, first_failing, has_loadable_segments, start}
@@ -13,12 +14,6 @@ use Rattle.op_link.proofs.Whole.{whole}
 use Rattle.op_emu.specs.Region.{Region, range_of, are_apart, byte_in, rights_in}
 use Rattle.op_emu.specs.Segments.{region_of, regions_of}
 use Rattle.op_emu.specs.declared.memory.Segment.{Segment as Loaded}
-
-and_left : (a b : Bool) → (a && b) ≡ true → a ≡ true
-and_left a b h = grind arith
-
-and_right : (a b : Bool) → (a && b) ≡ true → b ≡ true
-and_right a b h = grind arith
 
 -- the bytes of a segment are as many as its memory
 module _ (image : List ℕ) (s : Segment) (has : has_file_bytes image s ≡ true) where
@@ -40,17 +35,17 @@ ranges : (image : List ℕ) (hs : List ProgramHeader) → list_all (is_loadable 
 ranges image [] all = refl
 ranges image (h ∷ hs) all =
     let rest = map (λ (h : ProgramHeader). h.segment) hs in
-    let first = and_right (nat_eq h.kind 1) _ (and_left (is_loadable image h) (list_all (is_loadable image) hs) all) in
+    let first = second_so (nat_eq h.kind 1) _ (first_so (is_loadable image h) (list_all (is_loadable image) hs) all) in
     ap (λ r. r ∷ map range_of (map (region_in image) rest)) (range_of-region_in image h.segment first)
-    ∙ ap (λ rs. memory_range h.segment ∷ rs) (ranges image hs (and_right (is_loadable image h) _ all))
+    ∙ ap (λ rs. memory_range h.segment ∷ rs) (ranges image hs (second_so (is_loadable image h) _ all))
 
 -- the segments lie apart
 pub lie_apart_in : (image : List ℕ) → first_failing image ≡ None → are_apart (map range_of (regions_in image)) ≡ true
 unfolding has_loadable_segments
 lie_apart_in image is =
     let good = (whole image is).segments in
-    ap are_apart (ranges image (headers image) (and_left _ (are_apart (map memory_range (segments image))) good))
-    ∙ and_right (list_all (is_loadable image) (headers image)) _ good
+    ap are_apart (ranges image (headers image) (first_so _ (are_apart (map memory_range (segments image))) good))
+    ∙ second_so (list_all (is_loadable image) (headers image)) _ good
 
 -- one more segment
 pub one_more_region : (image : List ℕ) (made : List Loaded) (k : ℕ) (s : Segment) (next : Loaded) → regions_of made ≡ map (region_in image) (take k (segments image)) → slice_get (segments image) k ≡ Some s → region_of next ≡ region_in image s → regions_of (made ++ next ∷ []) ≡ map (region_in image) (take (k + 1) (segments image))

@@ -1,23 +1,19 @@
 -- Environment calls that read, as steps of the definition.
-use Rattle.std.proofs.Common.{◌≡◌, ℕ, ◌+◌, ◌%◌, ◌^◌, ◌≤◌, ⊎_elim, ◌⊎◌, true, false, nat_eq, IsTrue, Option, List, [], ◌++◌, length, take, refl, ap, sym, ◌∙◌, subst, arith, inl, inr}
+use Rattle.std.proofs.Common.{◌≡◌, ℕ, ◌+◌, ◌%◌, ◌^◌, ◌≤◌, ⊎_elim, ◌⊎◌, true, false, IsTrue, Option, List, [], ◌++◌, length, take, refl, ap, sym, ◌∙◌, subst, arith, inl, inr}
 use Rattle.std.proofs.Math.Seq.{take-append_seam}
 use Rattle.std.proofs.lemmas.Bool.{false≢true}
 use Rattle.std.proofs.lemmas.List.{append-nil, take_all, drop_at}
 use Rattle.op_base.specs.Outside.{preceded, IsExhausted}
-use Rattle.op_rv.specs.State.{State, Rights, Running, register}
-use Rattle.op_rv.specs.Environment.{read_call, is_writable, filled}
+use Rattle.op_rv.proofs.Environment.{read_call-filled}
+use Rattle.op_rv.specs.State.{State, Rights, Running}
+use Rattle.op_rv.specs.Environment.{read_call, filled}
 use Rattle.op_emu.specs.declared.hart.Hart.{Hart}
 use Rattle.op_emu.specs.declared.memory.Memory.{Memory}
 use Rattle.op_emu.specs.Filling.{AreBytes, Fills}
 use Rattle.op_emu.specs.Registers.{value_of, with_value}
 use Rattle.op_emu.specs.Segments.{regions_of, IsWritten}
 use Rattle.op_emu.specs.Acts.{moment, state_of, MayFollow, Takes, Acts, may_fill, streams}
-use Rattle.op_emu.proofs.ActsLemmas.{by_true}
 use Rattle.op_emu.proofs.Stretches.{appended-nil}
-
-pub read_call-filled : (s : State) → register s 10 ≡ 0 → is_writable s ≡ true → read_call s ≡ filled (take (register s 12) s.input) s
-unfolding read_call
-read_call-filled s is may = by_true _ _ _ (ap (λ v. nat_eq v 0) is) ∙ by_true _ _ _ may
 
 -- a state that goes on, by its parts
 abbrev state_with : List ℕ → ℕ → (ℕ → ℕ) → Rights → List ℕ → List ℕ → List ℕ → State

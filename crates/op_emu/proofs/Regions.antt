@@ -6,10 +6,11 @@ use Rattle.op_emu.specs.declared.memory.Right.{Right}
 use Rattle.op_emu.specs.declared.memory.Right.TheVariants.{Read, Write, Execute}
 use Rattle.op_emu.specs.declared.memory.Segment.{Segment}
 use Rattle.std.proofs.lemmas.Bool.Decides.{nat_tests}
+use Rattle.std.specs.Cmp.{first_so, second_so}
 use Rattle.std.specs.List.{list_all}
 use Rattle.std.specs.Option.{option_map_or, option_copied}
 use Rattle.op_rv.specs.State.{bytes_from, all_from, word_at}
-use Rattle.op_emu.proofs.Stretches.{all_from-blocked, and_left, and_right}
+use Rattle.op_emu.proofs.Stretches.{all_from-blocked}
 use Rattle.op_emu.specs.Region.{Region, Range, covers, is_apart, are_apart, range_of, region_at, byte_in, readable_in, writable_in, executable_in}
 
 find_holds_step : {X : Type 0} (p : X → Bool) (y : X) (ys : List X) (x : X) → (find p ys ≡ Some x → p x ≡ true) → (b : Bool) → p y ≡ b → cond b (Some y) (find p ys) ≡ Some x → p x ≡ true
@@ -57,8 +58,8 @@ found_apart q (r ∷ rs) a s all found =
 pub region_at_apart : (rs : List Region) (a b : ℕ) (s : Region) → are_apart (map range_of rs) ≡ true → region_at rs a ≡ Some s → covers (range_of s) b ≡ true → region_at rs b ≡ Some s
 region_at_apart [] a b s apart found there = cc
 region_at_apart (r ∷ rs) a b s apart found there =
-    let first : list_all (is_apart (range_of r)) (map range_of rs) ≡ true = and_left _ _ apart in
-    region_at_apart_step r s rs a b first (λ f. found_apart (range_of r) rs a s first f) (λ f. region_at_apart rs a b s (and_right _ _ apart) f there) there (covers (range_of r) a) refl found
+    let first : list_all (is_apart (range_of r)) (map range_of rs) ≡ true = first_so _ _ apart in
+    region_at_apart_step r s rs a b first (λ f. found_apart (range_of r) rs a s first f) (λ f. region_at_apart rs a b s (second_so _ _ apart) f there) there (covers (range_of r) a) refl found
 
 pub byte_in-found : (rs : List Region) (a : ℕ) (s : Region) → region_at rs a ≡ Some s → byte_in rs a ≡ get_or s.bytes (a - s.base) 0
 unfolding byte_in

@@ -1,17 +1,18 @@
 -- Runs of the emulator.
-use Rattle.std.proofs.Common.{◌≡◌, ◌≢◌, ℕ, suc, ◌+◌, ◌-◌, ◌^◌, ◌<◌, ◌≤◌, if◌then◌else◌, Option, List, ◌++◌, zero, append_assoc, refl, ap, sym, ◌∙◌, subst, arith, inl, inr}
-use Rattle.op_rv.specs.State.{State, Ending, Running, Ended, Faulted}
-use Rattle.op_rv.specs.Step.{step, step_by_ending, after}
+use Rattle.std.proofs.Common.{◌≡◌, ◌≢◌, ℕ, suc, ◌+◌, ◌-◌, ◌^◌, ◌<◌, ◌≤◌, if◌then◌else◌, Option, List, ◌++◌, zero, append_assoc, refl, ap, sym, ◌∙◌, subst, arith, inl, inr, subst₂}
+use Rattle.op_base.proofs.Tests.{rose_since}
+use Rattle.op_emu.proofs.ActsLemmas.{Acts-quiet, Acts-same, Acts-then, after-step, after-step_in_part, may_follow, ActsInPart, begins_to_write}
+use Rattle.op_emu.proofs.Gliding.{Acts-glide}
+use Rattle.op_emu.specs.Acts.{Moment, moment, state_of, ending_of, Streams, streams, faults, Faults, Acts, Leads, StepIs, FailsToWrite, WritesInPart, handed_bytes}
+use Rattle.op_emu.specs.Registers.{value_of}
+use Rattle.op_emu.specs.Runs.{moment_of, one_more, is_done, stop_of, GoesOnBefore, DoesSteps, RunIs, FailsAfter}
 use Rattle.op_emu.specs.declared.hart.Hart.{Hart}
 use Rattle.op_emu.specs.declared.machine.Machine.{Machine}
 use Rattle.op_emu.specs.declared.stop.Stepped.{Stepped}
 use Rattle.op_emu.specs.declared.stop.Stepped.TheVariants as stepped
 use Rattle.op_emu.specs.declared.stop.Stop.{Stop}
-use Rattle.op_emu.specs.Acts.{Moment, moment, state_of, ending_of, Streams, streams, faults, Faults, Acts, Leads, OutputFailed, StepIs}
-use Rattle.op_emu.specs.Runs.{moment_of, one_more, is_done, stop_of, GoesOnBefore, DoesSteps, RunIs}
-use Rattle.op_emu.proofs.Gliding.{Acts-glide}
-use Rattle.op_emu.proofs.Stretches.{Rose-from}
-use Rattle.op_emu.proofs.ActsLemmas.{Acts-quiet, Acts-same, Acts-then, after-step, after-step_in_part, may_follow}
+use Rattle.op_rv.specs.State.{State, Ending, Running, Ended, Faulted}
+use Rattle.op_rv.specs.Step.{step, step_by_ending, after}
 
 -- a machine that has ended or faulted stays
 stays : (m : ℕ) (s : State) → step s ≡ s → after m s ≡ s
@@ -76,10 +77,6 @@ does_nothing m i o e =
 moment_of-is : (m : Machine) (r : Stepped) → m.last ≡ r → moment_of m ≡ moment m.hart (ending_of r)
 moment_of-is m r is = ap (λ r. moment m.hart (ending_of r)) is
 
-failed_from : (i i' i'' o o' o'' e e' e'' : ℕ) → o ≤ o' → e ≤ e' → OutputFailed (faults i' i'' o' o'' e' e'') → OutputFailed (faults i i'' o o'' e e'')
-failed_from i i' i'' o o' o'' e e' e'' p q (inl rose) = inl (Rose-from o o' o'' p rose)
-failed_from i i' i'' o o' o'' e e' e'' p q (inr rose) = inr (Rose-from e e' e'' q rose)
-
 -- what the outputs tell, where nothing more was written
 no_output : (i i' o o' o'' e e' e'' : Option (List ℕ)) → o'' ≡ o' → e'' ≡ e' → streams i i' o o' e e' ≡ streams i i' o o'' e e''
 no_output i i' o o' o'' e e' e'' output errors =
@@ -141,17 +138,53 @@ module _ (m : ℕ) (old mid new : Machine) (i i' i'' o o' o'' e e' e'' : Option 
       };
       counted = counted ∙ does.counted;
     },
-    Rose-from d d' d'' b is.1,
+    rose_since d d' d'' b is.1,
   )
-  stops_by n stepped.WriteFault d d' d'' f f' f'' h h' h'' more b p q goes_not last counted is = (
-    m,
-    more,
-    after-step_in_part m (moment_of old) (moment mid.hart Running) i i' i'' o o' o'' e e' e'' new.hart first is.0,
-    failed_from d d' d'' f f' f'' h h' h'' p q is.1,
-    counted ∙ does.counted,
-  )
+  stops_by n stepped.WriteFault d d' d'' f f' f'' h h' h'' more b p q goes_not last counted is =
+      let stands : GoesOn new.hart i'' = subst₂ GoesOn (sym is.stays) (sym is.input) (first, λ k less x out err may. went_on k m (state_of (moment_of old) (first.taken ++ x) out err) (omega arith) (ap (λ s. s.ending) (first.leads x out err may))) in (
+        m,
+        more,
+        record {
+          output = o';
+          errors = e';
+          acts = stands.0;
+          goes_on = stands.1;
+          writes = subst (λ hart. WritesInPart step hart hart (streams i'' i'' o' o'' e' e'') (faults d d'' f f'' h h'')) (sym is.stays) (record {
+            writes = is.writes;
+            may = is.may;
+            stays = refl;
+            input = refl;
+            fails = fails_from is.fails;
+          });
+          counted = counted ∙ does.counted;
+        },
+      )
+    where
+      GoesOn : Hart → Option (List ℕ) → Type 0
+      GoesOn hart input = (acts : Acts (after m) (moment_of old) (moment hart Running) (streams i input o o' e e')) × GoesOnBefore (suc m) acts.taken (moment_of old) hart
+
+      fails_from : FailsToWrite (value_of mid.hart.registers.words 10) (handed_bytes mid.hart) (streams i' i'' o' o'' e' e'') (faults d' d'' f' f'' h' h'') → FailsToWrite (value_of mid.hart.registers.words 10) (handed_bytes mid.hart) (streams i'' i'' o' o'' e' e'') (faults d d'' f f'' h h'')
+      fails_from (inl (to, front, same, rose)) = inl (to, front, same, rose_since f f' f'' p rose)
+      fails_from (inr (to, front, same, rose)) = inr (to, front, same, rose_since h h' h'' q rose)
 
   -- the step that stops a run
   pub stops : (n : ℕ) (r : Stepped) (s : Stop) (d d' d'' f f' f'' h h' h'' : ℕ) → s ≡ stop_of r → m < n → d ≤ d' → f ≤ f' → h ≤ h' → r ≢ stepped.Went → new.last ≡ r → new.steps ≡ (if is_done r then one_more mid.steps else mid.steps) → StepIs step r mid.hart new.hart (streams i' i'' o' o'' e' e'') (faults d' d'' f' f'' h' h'') → RunIs n s old new (streams i i'' o o'' e e'') (faults d d'' f f'' h h'')
   stops n r s d d' d'' f f' f'' h h' h'' is more b p q goes_not last counted step_is =
       subst (λ s. RunIs n s old new (streams i i'' o o'' e e'') (faults d d'' f f'' h h'')) (sym is) (stops_by n r d d' d'' f f' f'' h h' h'' more b p q goes_not last counted step_is)
+
+-- what a run did that an output cut off: it began one step more
+pub begins_step : (m : ℕ) (old new : Machine) (told : Streams) (counts : Faults) → FailsAfter m old new told counts → ActsInPart (after (suc m)) (moment_of old) new.hart told
+begins_step m old new told counts fails =
+    let writes = begins_to_write step new.hart _ counts fails.writes in
+    let whole = after-step_in_part m (moment_of old) (moment new.hart Running) told.input_before told.input_after told.input_after told.output_before fails.output told.output_after told.errors_before fails.errors told.errors_after new.hart fails.acts writes in
+    record {
+      taken = whole.taken;
+      written = whole.written;
+      reported = whole.reported;
+      writes = whole.writes;
+      reports = whole.reports;
+      leaves = whole.leaves;
+      input = whole.input;
+      output = whole.output;
+      errors = whole.errors;
+    }

@@ -1,11 +1,13 @@
 -- Ranges of addresses, a stretch at a time.
-use Rattle.std.proofs.Common.{◌≡◌, ℕ, zero, suc, ◌+◌, ◌-◌, ◌<◌, ◌≤◌, Bool, true, false, ◌&&◌, List, [], ◌∷◌, ◌++◌, Option, Some, None, length, refl, ap, ◌∙◌, sym, arith, append_assoc, inl, inr}
+use Rattle.std.proofs.Common.{◌≡◌, ℕ, zero, suc, ◌+◌, ◌-◌, ◌<◌, ◌≤◌, Bool, true, false, ◌&&◌, List, [], ◌∷◌, ◌++◌, Option, Some, None, length, refl, ap, ◌∙◌, sym, arith, append_assoc}
 use Rattle.std.proofs.lemmas.List.{append-nil}
 use Rattle.std.proofs.lemmas.Bool.{false≢true}
+use Rattle.std.specs.Cmp.{first_so, second_so}
+use Rattle.op_base.proofs.Tests.{rose_since}
 use Rattle.op_emu.specs.Region.{Region, readable_in}
 use Rattle.op_emu.specs.Segments.{IsReadableFront}
 use Rattle.op_rv.specs.State.{bytes_from, all_from}
-use Rattle.op_base.specs.Outside.{appended, AppendsFront, Rose}
+use Rattle.op_base.specs.Outside.{appended, AppendsFront}
 
 bytes_from-at : (memory : ℕ → ℕ) (a b n : ℕ) → a ≡ b → bytes_from memory a n ≡ bytes_from memory b n
 bytes_from-at memory a b n e = ap (λ x. bytes_from memory x n) e
@@ -21,11 +23,6 @@ bytes_from-add memory a (suc m) n =
     let f : a + 1 + m ≡ a + suc m = omega arith in
     ap (bytes_from memory a) e
     ∙ ap (λ xs. memory a ∷ xs) (bytes_from-add memory (a + 1) m n ∙ ap (λ xs. bytes_from memory (a + 1) m ++ xs) (bytes_from-at memory (a + 1 + m) (a + suc m) n f))
-
-pub length-bytes_from : (memory : ℕ → ℕ) (a n : ℕ) → length (bytes_from memory a n) ≡ n
-unfolding bytes_from
-length-bytes_from memory a zero = refl
-length-bytes_from memory a (suc n) = ap suc (length-bytes_from memory (a + 1) n)
 
 and_assoc : (a b c : Bool) → (a && (b && c)) ≡ ((a && b) && c)
 and_assoc true b c = refl
@@ -96,10 +93,6 @@ bytes_from-none memory a n e =
     let is : n ≡ 0 = omega arith in
     ap (bytes_from memory a) is
 
-pub Rose-from : (a b c : ℕ) → a ≤ b → Rose b c → Rose a c
-Rose-from a b c le (inl more) = inl (omega arith)
-Rose-from a b c le (inr top) = inr top
-
 -- a front of a front
 pub AppendsFront-longer : (old new : Option (List ℕ)) (a b : List ℕ) → AppendsFront old a new → AppendsFront old (a ++ b) new
 AppendsFront-longer old new a b part =
@@ -119,22 +112,16 @@ pub front_is_some : (regions : List Region) (at left : ℕ) (front : List ℕ) �
 front_is_some regions at left front more all is =
     above_zero (length front) (λ none. false≢true (sym (all_from-blocked (readable_in regions) at left more (is.stops none more)) ∙ all))
 
-pub and_left : (a b : Bool) → (a && b) ≡ true → a ≡ true
-and_left a b h = grind arith
-
-pub and_right : (a b : Bool) → (a && b) ≡ true → b ≡ true
-and_right a b h = grind arith
-
 -- each address of a range with a right has it
 pub all_from-at : (right : ℕ → Bool) (a n k : ℕ) → k < n → all_from right a n ≡ true → right (a + k) ≡ true
 unfolding all_from
 all_from-at right a zero k below all = absurd (omega arith)
 all_from-at right a (suc n) zero below all =
     let e : a + zero ≡ a = omega arith in
-    ap right e ∙ and_left _ (all_from right (a + 1) n) all
+    ap right e ∙ first_so _ (all_from right (a + 1) n) all
 all_from-at right a (suc n) (suc k) below all =
     let e : a + suc k ≡ a + 1 + k = omega arith in
-    ap right e ∙ all_from-at right (a + 1) n k (omega arith) (and_right (right a) _ all)
+    ap right e ∙ all_from-at right (a + 1) n k (omega arith) (second_so (right a) _ all)
 
 -- a part of a range with a right has it
 pub all_from-part : (right : ℕ → Bool) (a n k m : ℕ) → k + m ≤ n → all_from right a n ≡ true → all_from right (a + k) m ≡ true
@@ -143,11 +130,11 @@ all_from-part right a n k m within all =
     let split : all_from right a n ≡ (all_from right a (k + m) && all_from right (a + (k + m)) (n - (k + m))) =
     sym (ap (all_from right a) e) ∙ all_from-add right a (k + m) (n - (k + m))
     in
-    let front : all_from right a (k + m) ≡ true = and_left _ (all_from right (a + (k + m)) (n - (k + m))) (sym split ∙ all) in
-    and_right (all_from right a k) _ (sym (all_from-add right a k m) ∙ front)
+    let front : all_from right a (k + m) ≡ true = first_so _ (all_from right (a + (k + m)) (n - (k + m))) (sym split ∙ all) in
+    second_so (all_from right a k) _ (sym (all_from-add right a k m) ∙ front)
 
 -- a front of a range with a right has it
 pub all_from-front : (right : ℕ → Bool) (a n m : ℕ) → m ≤ n → all_from right a n ≡ true → all_from right a m ≡ true
 all_from-front right a n m within all =
     let e : m + (n - m) ≡ n = omega arith in
-    and_left _ (all_from right (a + m) (n - m)) (sym (all_from-add right a m (n - m)) ∙ ap (all_from right a) e ∙ all)
+    first_so _ (all_from right (a + m) (n - m)) (sym (all_from-add right a m (n - m)) ∙ ap (all_from right a) e ∙ all)

@@ -2,11 +2,12 @@
 use Rattle.std.proofs.Common.{◌≡◌, ℕ, zero, suc, ◌+◌, ◌-◌, ◌<◌, ◌≤◌, Bool, true, false, cond, ◌&&◌, List, [], ◌∷◌, ◌++◌, Some, None, length, get_or, set, take, drop, map, find, option_map, IsTrue, nat_le, nat_lt, refl, ap, sym, ◌∙◌, subst, arith, ⊎_elim, length-append, length-drop}
 use Rattle.std.proofs.Math.Path.{fun_ext}
 use Rattle.std.proofs.Math.Seq.{take-add}
-use Rattle.std.proofs.lemmas.Bool.{false≢true, cases_lt}
+use Rattle.std.proofs.lemmas.Bool.{false≢true, cases_lt, cond-true, cond-false}
 use Rattle.std.proofs.lemmas.Bool.Decides.{nat_tests}
 use Rattle.std.proofs.lemmas.List.{map-set, get_or-map, length-take-le, get_or_append_left, get_or-append_right, get_or-take, get_or-drop}
 use Rattle.std.proofs.lemmas.List.Quantifiers.{position-Some}
 use Rattle.std.proofs.lemmas.List.Sums.{fails_before_first}
+use Rattle.std.specs.Cmp.{first_so, second_so}
 use Rattle.std.specs.List.{list_all, position, position_or_len}
 use Rattle.std.specs.Option.{option_map_or}
 use Rattle.op_rv.specs.State.{Rights, with_bytes}
@@ -14,40 +15,33 @@ use Rattle.op_emu.specs.Region.{Region, Range, covers, is_apart, are_apart, rang
 use Rattle.op_emu.specs.Segments.{region_of, regions_of, lie_apart, written_over, HasAddress, IsWithin, IsFoundAt, IsWritten}
 use Rattle.op_emu.specs.declared.memory.Segment.{Segment}
 use Rattle.op_emu.proofs.Regions.{find-map, apart_covers}
-use Rattle.op_emu.proofs.Stretches.{and_left, and_right}
 
 -- a range that lies apart from all lies apart from the one at each place
 apart_at : (q : Range) (rs : List Region) (k : ℕ) (r : Region) → k < length rs → get_or rs k r ≡ r → list_all (is_apart q) (map range_of rs) ≡ true → is_apart q (range_of r) ≡ true
 apart_at q [] k r in_list at all = absurd (omega arith)
 apart_at q (s ∷ rs) zero r in_list at all =
-    subst (λ s. is_apart q (range_of s) ≡ true) at (and_left _ (list_all (is_apart q) (map range_of rs)) all)
+    subst (λ s. is_apart q (range_of s) ≡ true) at (first_so _ (list_all (is_apart q) (map range_of rs)) all)
 apart_at q (s ∷ rs) (suc k) r in_list at all =
-    apart_at q rs k r (omega arith) at (and_right (is_apart q (range_of s)) _ all)
-
-cond_true : {X : Type 0} (b : Bool) (x y : X) → b ≡ true → cond b x y ≡ x
-cond_true b x y is = ap (λ b. cond b x y) is
-
-pub cond_false : {X : Type 0} (b : Bool) (x y : X) → b ≡ false → cond b x y ≡ y
-cond_false b x y is = ap (λ b. cond b x y) is
+    apart_at q rs k r (omega arith) at (second_so (is_apart q (range_of s)) _ all)
 
 -- the segment at an address that the one at a place covers
 pub region_at-place : (rs : List Region) (k : ℕ) (r : Region) (x : ℕ) → are_apart (map range_of rs) ≡ true → k < length rs → get_or rs k r ≡ r → covers (range_of r) x ≡ true → region_at rs x ≡ Some r
 region_at-place [] k r x lie in_list at there = absurd (omega arith)
 region_at-place (s ∷ rs) zero r x lie in_list at there =
     let here : covers (range_of s) x ≡ true = subst (λ s. covers (range_of s) x ≡ true) (sym at) there in
-    cond_true _ (Some s) (region_at rs x) here ∙ ap Some at
+    cond-true _ (Some s) (region_at rs x) here ∙ ap Some at
 region_at-place (s ∷ rs) (suc k) r x lie in_list at there =
-    let first : list_all (is_apart (range_of s)) (map range_of rs) ≡ true = and_left _ _ lie in
+    let first : list_all (is_apart (range_of s)) (map range_of rs) ≡ true = first_so _ _ lie in
     let apart = apart_at (range_of s) rs k r (omega arith) at first in
     let away = apart_covers (range_of s) (range_of r) x apart there in
-    cond_false _ (Some s) (region_at rs x) away ∙ region_at-place rs k r x (and_right _ _ lie) (omega arith) at there
+    cond-false _ (Some s) (region_at rs x) away ∙ region_at-place rs k r x (second_so _ _ lie) (omega arith) at there
 
 -- where the one at a place is replaced by one of the same range, it is found where that one was
 region_at-set : (rs : List Region) (k : ℕ) (r r' : Region) (x : ℕ) → k < length rs → get_or rs k r ≡ r → range_of r' ≡ range_of r → covers (range_of r) x ≡ false → region_at (set rs k r') x ≡ region_at rs x
 region_at-set [] k r r' x in_list at same away = absurd (omega arith)
 region_at-set (s ∷ rs) zero r r' x in_list at same away =
-    cond_false _ (Some r') (region_at rs x) (ap (λ q. covers q x) same ∙ away)
-    ∙ sym (cond_false _ (Some s) (region_at rs x) (ap (λ s. covers (range_of s) x) at ∙ away))
+    cond-false _ (Some r') (region_at rs x) (ap (λ q. covers q x) same ∙ away)
+    ∙ sym (cond-false _ (Some s) (region_at rs x) (ap (λ s. covers (range_of s) x) at ∙ away))
 region_at-set (s ∷ rs) (suc k) r r' x in_list at same away =
     ap (cond (covers (range_of s) x) (Some s)) (region_at-set rs k r r' x (omega arith) at same away)
 
@@ -188,16 +182,16 @@ module _ (rs : List Region) (k : ℕ) (r r' : Region) (lie : are_apart (map rang
   byte_after x =
       by_cases (covers (range_of r) x) _ _ (λ there.
       byte_there x there
-      ∙ by_cases (is_written a (length bytes) x) _ _ (λ is. byte_written x there is ∙ sym (cond_true _ (get_or bytes (x - a) 0) (byte_in rs x) is)) (λ is.
-      byte_kept x there is ∙ sym (byte_before x there) ∙ sym (cond_false _ (get_or bytes (x - a) 0) (byte_in rs x) is))) (λ away.
+      ∙ by_cases (is_written a (length bytes) x) _ _ (λ is. byte_written x there is ∙ sym (cond-true _ (get_or bytes (x - a) 0) (byte_in rs x) is)) (λ is.
+      byte_kept x there is ∙ sym (byte_before x there) ∙ sym (cond-false _ (get_or bytes (x - a) 0) (byte_in rs x) is))) (λ away.
       byte_away x away
-      ∙ sym (cond_false _ (get_or bytes (x - a) 0) (byte_in rs x) (not_written (range_of r) a (length bytes) x low (omega arith) away)))
+      ∙ sym (cond-false _ (get_or bytes (x - a) 0) (byte_in rs x) (not_written (range_of r) a (length bytes) x low (omega arith) away)))
 
 -- no segment has an address that no place has
 none_found : {X : Type 0} (p : X → Bool) (xs : List X) → ((i : ℕ) (d : X) → i < length xs → p (get_or xs i d) ≡ false) → find p xs ≡ None
 none_found p [] fails = refl
 none_found p (x ∷ xs) fails =
-    cond_false (p x) (Some x) (find p xs) (fails 0 x (omega arith))
+    cond-false (p x) (Some x) (find p xs) (fails 0 x (omega arith))
     ∙ none_found p xs (λ i d below. fails (suc i) d (omega arith))
 
 position-None : {X : Type 0} (p : X → Bool) (xs : List X) → position p xs ≡ None → length xs ≤ position_or_len p xs
@@ -285,20 +279,20 @@ set_same (z ∷ zs) (suc k) x y at same = ap (λ ws. z ∷ ws) (set_same zs k x 
 pub written_none : (rs : List Region) (at : ℕ) → IsWritten rs rs at []
 written_none rs at =
     record {
-      memory = fun_ext (λ x. sym (cond_false _ (get_or [] (x - at) 0) (byte_in rs x) (grind (arith, nat_tests))));
+      memory = fun_ext (λ x. sym (cond-false _ (get_or [] (x - at) 0) (byte_in rs x) (grind (arith, nat_tests))));
       rights = refl;
     }
 
 -- memory after a write: what was written, and the rest as it was
 module _ (memory : ℕ → ℕ) (at : ℕ) (bytes : List ℕ) (x : ℕ) where
   with_bytes-below : x < at → with_bytes memory at bytes x ≡ memory x
-  with_bytes-below below = cond_false _ (get_or bytes (x - at) 0) (memory x) (grind (arith, nat_tests))
+  with_bytes-below below = cond-false _ (get_or bytes (x - at) 0) (memory x) (grind (arith, nat_tests))
 
   with_bytes-above : at + length bytes ≤ x → with_bytes memory at bytes x ≡ memory x
-  with_bytes-above above = cond_false _ (get_or bytes (x - at) 0) (memory x) (grind (arith, nat_tests))
+  with_bytes-above above = cond-false _ (get_or bytes (x - at) 0) (memory x) (grind (arith, nat_tests))
 
   with_bytes-within : at ≤ x → x < at + length bytes → with_bytes memory at bytes x ≡ get_or bytes (x - at) 0
-  with_bytes-within from below = cond_true _ (get_or bytes (x - at) 0) (memory x) (grind (arith, nat_tests))
+  with_bytes-within from below = cond-true _ (get_or bytes (x - at) 0) (memory x) (grind (arith, nat_tests))
 
 -- what was written twice, the second time right behind the first
 module _ (memory : ℕ → ℕ) (at : ℕ) (first second : List ℕ) (x : ℕ) where

@@ -3,7 +3,7 @@ use Rattle.std.specs.Prelude.{◌≡◌, ℕ, ◌<◌, ◌≤◌, ◌⊎◌, Opt
 use Rattle.op_base.specs.Outside.{appended, preceded, AppendsFront, IsExhausted, Rose}
 use Rattle.op_rv.specs.State.{State, Ending, Running, Ended, Faulted, advanced, with_register, word_at, bytes_from, all_from}
 use Rattle.op_rv.specs.Step.{can_fetch}
-use Rattle.op_rv.specs.Environment.{read_call}
+use Rattle.op_rv.specs.Environment.{read_call, write_call}
 use Rattle.op_emu.specs.Region.{byte_in, readable_in, writable_in, rights_in}
 use Rattle.op_rv.specs.declared.fault.FaultKind.TheVariants.{Load}
 use Rattle.op_link.specs.Image.{start}
@@ -86,17 +86,6 @@ pub record Acts (f : State → State) (old new : Moment) (told : Streams) : Type
   pub output : told.output_after ≡ appended told.output_before written
   pub errors : told.errors_after ≡ appended told.errors_before reported
 
--- the call began to do this, and each output got a front of what it would have got
-pub record ActsInPart (f : State → State) (old : Moment) (new : Hart) (told : Streams) : Type 0 where
-  pub taken : List ℕ
-  pub written : List ℕ
-  pub reported : List ℕ
-  pub writes : (x o e : List ℕ) → MayFollow new x → (f (state_of old (taken ++ x) o e)).output ≡ o ++ written
-  pub reports : (x o e : List ℕ) → MayFollow new x → (f (state_of old (taken ++ x) o e)).errors ≡ e ++ reported
-  pub input : Takes taken old.hart new told.input_before told.input_after
-  pub output : AppendsFront told.output_before written told.output_after
-  pub errors : AppendsFront told.errors_before reported told.errors_after
-
 -- the bytes that an environment call hands over, and whether they may be read or written
 abbrev pub handed_bytes : Hart → List ℕ
 handed_bytes hart =
@@ -151,13 +140,27 @@ InputFailed counts = Rose counts.input_before counts.input_after
 abbrev pub OutputFailed : Faults → Type 0
 OutputFailed counts = Rose counts.output_before counts.output_after ⊎ Rose counts.errors_before counts.errors_after
 
+-- the output, which is descriptor 1, or the errors, which are 2, got a front of these bytes and failed; the other one is as before
+abbrev pub FailsToWrite : ℕ → List ℕ → Streams → Faults → Type 0
+FailsToWrite to bytes told counts =
+    ((to ≡ 1) × AppendsFront told.output_before bytes told.output_after × (told.errors_after ≡ told.errors_before) × Rose counts.output_before counts.output_after)
+    ⊎ ((to ≡ 2) × AppendsFront told.errors_before bytes told.errors_after × (told.output_after ≡ told.output_before) × Rose counts.errors_before counts.errors_after)
+
+-- the call is one that writes, to an output that failed: nothing is read, and the machine is as it was
+pub record WritesInPart (f : State → State) (old new : Hart) (told : Streams) (counts : Faults) : Type 0 where
+  pub writes : (x o e : List ℕ) → f (state_of (moment old Running) x o e) ≡ write_call (state_of (moment old Running) x o e)
+  pub may : IsTrue (may_hand old)
+  pub stays : new ≡ old
+  pub input : told.input_after ≡ told.input_before
+  pub fails : FailsToWrite (value_of old.registers.words 10) (handed_bytes old) told counts
+
 -- a step of a machine that goes on
 abbrev pub StepIs : (State → State) → Stepped → Hart → Hart → Streams → Faults → Type 0
 StepIs f Went old new told counts = Acts f (moment old Running) (moment new Running) told
 StepIs f (stepped.Ended status) old new told counts = Acts f (moment old Running) (moment new (Ended status)) told
 StepIs f (Fault kind pc) old new told counts = Acts f (moment old Running) (moment new (Faulted kind pc)) told
 StepIs f ReadFault old new told counts = ReadsInPart f old told × InputFailed counts
-StepIs f WriteFault old new told counts = ActsInPart f (moment old Running) new told × OutputFailed counts
+StepIs f WriteFault old new told counts = WritesInPart f old new told counts
 
 -- the call did this to the machine, and touched no stream
 pub record Leads (f : State → State) (old : Hart) (new : Moment) : Type 0 where

@@ -3,7 +3,7 @@ use Rattle.std.specs.Prelude.{◌≡◌, ℕ, suc, ◌+◌, ◌-◌, ◌^◌, �
 use Rattle.op_rv.specs.State.{Running}
 use Rattle.op_rv.specs.Step.{step, after}
 use Rattle.op_link.specs.Image.{first_failing}
-use Rattle.op_emu.specs.Acts.{Moment, MayFollow, moment, state_of, ending_of, Streams, Faults, Acts, ActsInPart, ReadsInPart, InputFailed, OutputFailed, BeginsAs}
+use Rattle.op_emu.specs.Acts.{Moment, MayFollow, moment, state_of, ending_of, Streams, Faults, Acts, ReadsInPart, WritesInPart, InputFailed, BeginsAs}
 use Rattle.op_emu.specs.declared.hart.Hart.{Hart}
 use Rattle.op_emu.specs.declared.machine.Machine.{Machine}
 use Rattle.op_emu.specs.declared.stop.MachineError.{MachineError}
@@ -60,6 +60,16 @@ pub record WantsAfter (m : ℕ) (old new : Machine) (told : Streams) : Type 0 wh
   pub reads : ReadsInPart step hart (record told { input_before = left; output_before = told.output_after; errors_before = told.errors_after })
   pub counted : new.steps ≡ old.steps + m
 
+-- the call did m steps, before and behind which the machine of the definition goes on, and the next one writes to an output that failed: the
+-- machine is as behind the m steps
+pub record FailsAfter (m : ℕ) (old new : Machine) (told : Streams) (counts : Faults) : Type 0 where
+  pub output : Option (List ℕ)
+  pub errors : Option (List ℕ)
+  pub acts : Acts (after m) (moment_of old) (moment new.hart Running) (record told { output_after = output; errors_after = errors })
+  pub goes_on : GoesOnBefore (suc m) acts.taken (moment_of old) new.hart
+  pub writes : WritesInPart step new.hart new.hart (record told { input_before = told.input_after; output_before = output; errors_before = errors }) counts
+  pub counted : new.steps ≡ old.steps + m
+
 -- a run of at most n steps of a machine that goes on
 abbrev pub RunIs : ℕ → Stop → Machine → Machine → Streams → Faults → Type 0
 RunIs n stop.Spent old new told counts =
@@ -67,8 +77,7 @@ RunIs n stop.Spent old new told counts =
 RunIs n (stop.Ended status) old new told counts = (m : ℕ) × (m ≤ n) × DoesSteps m old new told
 RunIs n (stop.Fault kind pc) old new told counts = (m : ℕ) × (m < n) × FaultsAfter m old new told
 RunIs n stop.ReadFault old new told counts = (m : ℕ) × (m < n) × WantsAfter m old new told × InputFailed counts
-RunIs n stop.WriteFault old new told counts =
-    (m : ℕ) × (m < n) × ActsInPart (after (suc m)) (moment_of old) new.hart told × OutputFailed counts × (new.steps ≡ old.steps + m)
+RunIs n stop.WriteFault old new told counts = (m : ℕ) × (m < n) × FailsAfter m old new told counts
 
 -- the image meets the conditions, and the machine has not begun, and begins as the image says
 pub record IsLoaded (image : List ℕ) (machine : Machine) : Type 0 where

@@ -2,14 +2,13 @@
 use Rattle.std.proofs.Common.{◌≡◌, ℕ, ◌+◌, List, [], ◌∷◌, ◌++◌, Option, Some, None, ap, append_assoc, ◌∙◌, length, refl}
 use Rattle.std.specs.Prelude.{nat_lt, slice_get, if◌then◌else◌}
 use Rattle.std.proofs.lemmas.Option.{slice_get-map}
-use Rattle.op_constants.specs.Literals.{literals_in}
 use Rattle.op_core.specs.declared.program.Core.{Core}
 use Rattle.op_core.specs.declared.ids.RoutineId.{RoutineId}
 use Rattle.op_expand.specs.Calls.{charge_of, finalizations, has_closing}
 use Rattle.op_expand.specs.Closing.{closing_routines, finding_code, part_blocks}
 use Rattle.op_expand.specs.Frames.{frame_of}
-use Rattle.op_expand.specs.Programs.{first_literal, program_literal, routine_without_code, routines_from, without_code}
-use Rattle.op_expand.specs.Routines.{beginning, behind_blocks, behind_code, blocks_of, code_of, error_block, error_blocks, instruction_code, low_parameters, low_routine, most_charge, routine_with}
+use Rattle.op_expand.specs.Programs.{routine_without_code, routines_from, without_code}
+use Rattle.op_expand.specs.Routines.{beginning, blocks_of, code_of, error_block, error_blocks, instruction_code, low_parameters, low_routine, most_charge, routine_with}
 use Rattle.op_expand.specs.declared.frame.Frame.{Frame}
 use Rattle.op_low.specs.declared.code.Low.{Low}
 use Rattle.op_low.specs.declared.code.Routine.{Routine as LowRoutine}
@@ -28,26 +27,26 @@ same_charge mir r = by (slice_get mir.routines r) refl
     by None e = rw (slice_get-map routine_without_code mir.routines r, e) refl
     by (Some x) e = rw (slice_get-map routine_without_code mir.routines r, e) refl
 
-same_instruction : (core : Core) (mir : Mir) (frame : Frame) (id : ℕ) (i : Instruction) → instruction_code core (without_code mir) frame id i ≡ instruction_code core mir frame id i
-same_instruction core mir frame id (Call r operands) = rw (same_charge mir r.0) refl
-same_instruction core mir frame id _ = refl
+same_instruction : (core : Core) (mir : Mir) (frame : Frame) (texts : List (List ℕ)) (i : Instruction) → instruction_code core (without_code mir) frame texts i ≡ instruction_code core mir frame texts i
+same_instruction core mir frame texts (Call r operands) = rw (same_charge mir r.0) refl
+same_instruction core mir frame texts _ = refl
 
-same_code : (core : Core) (mir : Mir) (frame : Frame) (r id : ℕ) (is : List Instruction) → code_of core (without_code mir) frame r id is ≡ code_of core mir frame r id is
-same_code core mir frame r id [] = refl
-same_code core mir frame r id (i ∷ is) = rw (same_instruction core mir frame id i, same_code core mir frame r (id + literals_in core r i) is) refl
+same_code : (core : Core) (mir : Mir) (frame : Frame) (texts : List (List ℕ)) (is : List Instruction) → code_of core (without_code mir) frame texts is ≡ code_of core mir frame texts is
+same_code core mir frame texts [] = refl
+same_code core mir frame texts (i ∷ is) = rw (same_instruction core mir frame texts i, same_code core mir frame texts is) refl
 
-same_blocks : (core : Core) (mir : Mir) (frame : Frame) (r id : ℕ) (front : List LowInstruction) (bs : List Block) → blocks_of core (without_code mir) frame r id front bs ≡ blocks_of core mir frame r id front bs
-same_blocks core mir frame r id front [] = refl
-same_blocks core mir frame r id front (b ∷ bs) = rw (same_code core mir frame r id b.code, same_blocks core mir frame r (behind_code core r id b.code) [] bs) refl
+same_blocks : (core : Core) (mir : Mir) (frame : Frame) (texts : List (List ℕ)) (front : List LowInstruction) (bs : List Block) → blocks_of core (without_code mir) frame texts front bs ≡ blocks_of core mir frame texts front bs
+same_blocks core mir frame texts front [] = refl
+same_blocks core mir frame texts front (b ∷ bs) = rw (same_code core mir frame texts b.code, same_blocks core mir frame texts [] bs) refl
 
-same_routine : (core : Core) (mir : Mir) (r id : ℕ) (x : Routine) → low_routine core (without_code mir) r id x ≡ low_routine core mir r id x
-same_routine core mir r id x =
+same_routine : (core : Core) (mir : Mir) (texts : List (List ℕ)) (r : ℕ) (x : Routine) → low_routine core (without_code mir) texts r x ≡ low_routine core mir texts r x
+same_routine core mir texts r x =
     ap (λ blocks. if nat_lt most_charge x.charge then routine_with (low_parameters core r) 0 (error_block 202 5 ∷ []) else routine_with (low_parameters core r) (frame_of core r x).locals (blocks ++ error_blocks))
-    (same_blocks core mir (frame_of core r x) r id (beginning core (frame_of core r x) r) x.blocks)
+    (same_blocks core mir (frame_of core r x) texts (beginning core (frame_of core r x) r) x.blocks)
 
-same_routines : (core : Core) (mir : Mir) (r id : ℕ) (xs : List Routine) → routines_from core (without_code mir) r id xs ≡ routines_from core mir r id xs
-same_routines core mir r id [] = refl
-same_routines core mir r id (x ∷ xs) = rw (same_routine core mir r id x, same_routines core mir (r + 1) (behind_blocks core r id x.blocks) xs) refl
+same_routines : (core : Core) (mir : Mir) (texts : List (List ℕ)) (r : ℕ) (xs : List Routine) → routines_from core (without_code mir) texts r xs ≡ routines_from core mir texts r xs
+same_routines core mir texts r [] = refl
+same_routines core mir texts r (x ∷ xs) = rw (same_routine core mir texts r x, same_routines core mir texts (r + 1) xs) refl
 
 same_parts : (core : Core) (mir : Mir) (stack parts before : ℕ) (fs : List RoutineId) → part_blocks core (without_code mir) stack parts before fs ≡ part_blocks core mir stack parts before fs
 same_parts core mir stack parts before [] = refl
@@ -64,19 +63,15 @@ pub low_is : (routines others : List LowRoutine) (entry first literals counted :
 low_is routines others entry first literals counted globals zeros e f g h = rw (e, f, g, h) refl
 
 -- behind these routines, of which nothing need be known
-pub routines_are : (core : Core) (charges mir : Mir) (fixed front now last all : List LowRoutine) (stack id literal : ℕ) → charges ≡ without_code mir → front ≡ fixed → now ≡ front ++ routines_from core charges 0 first_literal mir.routines → id ≡ length mir.routines → literal ≡ program_literal core mir → last ≡ now ++ low_routine core charges id literal mir.program ∷ [] → all ≡ last ++ closing_routines core charges stack → all ≡ fixed ++ routines_from core mir 0 first_literal mir.routines ++ low_routine core mir (length mir.routines) (program_literal core mir) mir.program ∷ closing_routines core mir stack
-routines_are core charges mir fixed front now last all stack id literal e f g h i j k =
+pub routines_are : (texts : List (List ℕ)) (core : Core) (charges mir : Mir) (fixed front now last all : List LowRoutine) (stack id : ℕ) → charges ≡ without_code mir → front ≡ fixed → now ≡ front ++ routines_from core charges texts 0 mir.routines → id ≡ length mir.routines → last ≡ now ++ low_routine core charges texts id mir.program ∷ [] → all ≡ last ++ closing_routines core charges stack → all ≡ fixed ++ routines_from core mir texts 0 mir.routines ++ low_routine core mir texts (length mir.routines) mir.program ∷ closing_routines core mir stack
+routines_are texts core charges mir fixed front now last all stack id e f g h j k =
     let program = length mir.routines in
     let bare = without_code mir in
-    let whole : List LowRoutine → Mir → ℕ → ℕ → List LowRoutine = λ front c id literal. ((front ++ routines_from core c 0 first_literal mir.routines) ++ low_routine core c id literal mir.program ∷ []) ++ closing_routines core c stack in
-    let front_is : all ≡ whole front charges id literal = k ∙ ap (λ x. x ++ closing_routines core charges stack) (j ∙ ap (λ x. x ++ low_routine core charges id literal mir.program ∷ []) g) in
-    let bare_is : whole front charges id literal ≡ whole fixed bare program (program_literal core mir) =
-    ap (λ c. whole front c id literal) e ∙ ap (λ x. whole x bare id literal) f ∙ ap (λ n. whole fixed bare n literal) h ∙ ap (λ n. whole fixed bare program n) i in
-    let all_is : whole fixed bare program (program_literal core mir) ≡ whole fixed mir program (program_literal core mir) =
-    ap (λ rs. ((fixed ++ rs) ++ low_routine core bare program (program_literal core mir) mir.program ∷ []) ++ closing_routines core bare stack) (same_routines core mir 0 first_literal mir.routines)
-    ∙ ap (λ r. ((fixed ++ routines_from core mir 0 first_literal mir.routines) ++ r ∷ []) ++ closing_routines core bare stack) (same_routine core mir program (program_literal core mir) mir.program)
-    ∙ ap (λ rs. ((fixed ++ routines_from core mir 0 first_literal mir.routines) ++ low_routine core mir program (program_literal core mir) mir.program ∷ []) ++ rs) (same_closing core mir stack) in
-    front_is ∙ bare_is ∙ all_is ∙ append_assoc (fixed ++ routines_from core mir 0 first_literal mir.routines) (low_routine core mir program (program_literal core mir) mir.program ∷ []) (closing_routines core mir stack)
-
-pub literals_are : (core : Core) (mir : Mir) (id literal : ℕ) → id ≡ length mir.routines → literal ≡ program_literal core mir → behind_blocks core id literal mir.program.blocks ≡ behind_blocks core (length mir.routines) (program_literal core mir) mir.program.blocks
-literals_are core mir id literal e f = ap (λ n. behind_blocks core n literal mir.program.blocks) e ∙ ap (λ n. behind_blocks core (length mir.routines) n mir.program.blocks) f
+    let whole : List LowRoutine → Mir → ℕ → List LowRoutine = λ front c id. ((front ++ routines_from core c texts 0 mir.routines) ++ low_routine core c texts id mir.program ∷ []) ++ closing_routines core c stack in
+    let front_is : all ≡ whole front charges id = k ∙ ap (λ x. x ++ closing_routines core charges stack) (j ∙ ap (λ x. x ++ low_routine core charges texts id mir.program ∷ []) g) in
+    let bare_is : whole front charges id ≡ whole fixed bare program = ap (λ c. whole front c id) e ∙ ap (λ x. whole x bare id) f ∙ ap (λ n. whole fixed bare n) h in
+    let all_is : whole fixed bare program ≡ whole fixed mir program =
+    ap (λ rs. ((fixed ++ rs) ++ low_routine core bare texts program mir.program ∷ []) ++ closing_routines core bare stack) (same_routines core mir texts 0 mir.routines)
+    ∙ ap (λ r. ((fixed ++ routines_from core mir texts 0 mir.routines) ++ r ∷ []) ++ closing_routines core bare stack) (same_routine core mir texts program mir.program)
+    ∙ ap (λ rs. ((fixed ++ routines_from core mir texts 0 mir.routines) ++ low_routine core mir texts program mir.program ∷ []) ++ rs) (same_closing core mir stack) in
+    front_is ∙ bare_is ∙ all_is ∙ append_assoc (fixed ++ routines_from core mir texts 0 mir.routines) (low_routine core mir texts program mir.program ∷ []) (closing_routines core mir stack)

@@ -33,7 +33,7 @@ use Rattle.op_mir.specs.declared.instruction.Call.{Call}
 use Rattle.op_mir.specs.declared.instruction.Given.{Given}
 use Rattle.op_mir.specs.declared.instruction.Given.TheVariants.{ByValue, ByReference, ByPlace, ByCopy}
 use Rattle.op_mir.specs.declared.instruction.Receiver.{Receiver}
-use Rattle.op_mir.specs.declared.instruction.Receiver.TheVariants.{Temporary, Place}
+use Rattle.op_mir.specs.declared.instruction.Receiver.TheVariants.{Nowhere, Temporary, Place}
 use Rattle.op_mir.specs.declared.path.Root.TheVariants.{Local}
 use Rattle.op_rt_text.specs.Names.{call, register}
 use Rattle.op_rv.specs.declared.instruction.AluOp.TheVariants.{Sub}
@@ -54,7 +54,7 @@ result_address = register 1
 
 -- how many run-time routines stand in front of the program's
 abbrev pub runtime : ℕ
-runtime = 8
+runtime = 9
 
 -- ---- arguments: the code of each, and the register that has it
 
@@ -89,17 +89,20 @@ givens_in core frame (g ∷ gs) free = (given_spot core frame g free).base ∷ g
 -- ---- results
 
 abbrev pub receiver_code : Core → Frame → Receiver → VirtualRegister → List Instruction
+receiver_code core frame Nowhere free = []
+receiver_code core frame (Temporary t) free = []
 receiver_code core frame (Place of to) free = place_code core frame 0 to.root to.steps free
-receiver_code core frame _ free = []
 
 -- what has no address is passed the bytes that are left, which nobody reads there
 abbrev pub receiver_spot : Core → Frame → Receiver → VirtualRegister → Spot
+receiver_spot core frame Nowhere free = at_register left free
+receiver_spot core frame (Temporary t) free = at_register left free
 receiver_spot core frame (Place of to) free = place_of core frame 0 to.root to.steps free
-receiver_spot core frame _ free = at_register left free
 
 abbrev pub receiver_of : Frame → Receiver → VirtualRegister → VirtualRegister
+receiver_of frame Nowhere free = free
 receiver_of frame (Temporary t) free = register_of frame.bank t
-receiver_of frame _ free = free
+receiver_of frame (Place of to) free = free
 
 -- ---- calls
 

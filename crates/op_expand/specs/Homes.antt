@@ -14,63 +14,77 @@ use Rattle.op_expand.specs.declared.homes.Keeping.TheVariants.{AsGiven, InRegist
 use Rattle.op_expand.specs.declared.homes.Room.{Room}
 use Rattle.op_meaning.specs.Shapes.{is_reference, shape_of}
 use Rattle.op_mir.specs.declared.action.Action.{Action}
-use Rattle.op_mir.specs.declared.action.Action.TheVariants.{Load, Store, Copy, Look}
+use Rattle.op_mir.specs.declared.action.Action.TheVariants.{Constant, Load, Store, Copy, Look, BeginWith, Pick, Compute, Write, WriteText}
 use Rattle.op_mir.specs.declared.code.Block.{Block}
 use Rattle.op_mir.specs.declared.code.Routine.{Routine}
 use Rattle.op_mir.specs.declared.ids.LocalId.{LocalId}
 use Rattle.op_mir.specs.declared.instruction.Call.{Call as Operands}
 use Rattle.op_mir.specs.declared.instruction.Given.{Given}
-use Rattle.op_mir.specs.declared.instruction.Given.TheVariants.{ByPlace, ByCopy}
+use Rattle.op_mir.specs.declared.instruction.Given.TheVariants.{ByValue, ByReference, ByPlace, ByCopy}
 use Rattle.op_mir.specs.declared.instruction.Instruction.{Instruction}
-use Rattle.op_mir.specs.declared.instruction.Instruction.TheVariants.{Act, Call}
+use Rattle.op_mir.specs.declared.instruction.Instruction.TheVariants.{Act, Call, Jump, When, Unless, Switch, Dispatch, MakeDue, Stop, Return}
 use Rattle.op_mir.specs.declared.instruction.Receiver.{Receiver}
-use Rattle.op_mir.specs.declared.instruction.Receiver.TheVariants.{Place}
+use Rattle.op_mir.specs.declared.instruction.Receiver.TheVariants.{Nowhere, Temporary as ToTemporary, Place}
 use Rattle.op_mir.specs.declared.path.Root.{Root}
-use Rattle.op_mir.specs.declared.path.Root.TheVariants.{Local, Temporary}
+use Rattle.op_mir.specs.declared.path.Root.TheVariants.{Global, Local, Through, Temporary}
 use Rattle.op_rt_text.specs.Names.{register}
-
 -- ---- the roots that code needs an address of, each once, in the order in which it names them: variables that are given by place, and
 -- ---- temporaries of record and array types
 
-abbrev pub is_one_root : Root → Root → Bool
-is_one_root (Local v) (Local w) = nat_eq v.0 w.0
-is_one_root (Temporary of n) (Temporary type m) = is_same of type && nat_eq n m
-is_one_root _ _ = false
+pub use Rattle.op_mir.specs.FrameNeed.{is_one_root, rounded, size_of_root}
 
 abbrev pub with_root : List Root → Root → List Root
 with_root roots root = if list_any (is_one_root root) roots then roots else roots ++ root ∷ []
 
 abbrev pub with_temporary : List Root → Root → List Root
+with_temporary roots (Global v) = roots
+with_temporary roots (Local v) = roots
+with_temporary roots (Through v) = roots
 with_temporary roots (Temporary of n) = with_root roots (Temporary of n)
-with_temporary roots _ = roots
 
 abbrev pub with_place : List Root → Root → List Root
+with_place roots (Global v) = with_temporary roots (Global v)
 with_place roots (Local v) = with_root roots (Local v)
-with_place roots root = with_temporary roots root
+with_place roots (Through v) = with_temporary roots (Through v)
+with_place roots (Temporary of n) = with_temporary roots (Temporary of n)
 
 abbrev pub with_given : List Root → Given → List Root
+with_given roots (ByValue kind t) = roots
+with_given roots (ByReference t) = roots
 with_given roots (ByPlace path) = with_place roots path.root
 with_given roots (ByCopy of path) = with_temporary roots path.root
-with_given roots _ = roots
 
 abbrev pub with_receiver : List Root → Receiver → List Root
+with_receiver roots Nowhere = roots
+with_receiver roots (ToTemporary t) = roots
 with_receiver roots (Place of to) = with_temporary roots to.root
-with_receiver roots _ = roots
 
 abbrev pub with_call : List Root → Operands → List Root
 with_call roots call = with_receiver (fold with_given roots call.given) call.receiver
 
 abbrev pub with_action : List Root → Action → List Root
+with_action roots (Constant to n) = roots
 with_action roots (Load to kind from) = with_temporary roots from.root
 with_action roots (Store to kind from) = with_temporary roots to.root
 with_action roots (Copy of to from) = with_temporary (with_temporary roots from.root) to.root
 with_action roots (Look at) = with_temporary roots at.root
-with_action roots _ = roots
+with_action roots (BeginWith v) = roots
+with_action roots (Pick to text index) = roots
+with_action roots (Compute c) = roots
+with_action roots (Write w) = roots
+with_action roots (WriteText text width) = roots
 
 abbrev pub with_instruction : List Root → Instruction → List Root
 with_instruction roots (Act action landing) = with_action roots action
 with_instruction roots (Call id call) = with_call roots call
-with_instruction roots _ = roots
+with_instruction roots (Jump block) = roots
+with_instruction roots (When t block) = roots
+with_instruction roots (Unless t block) = roots
+with_instruction roots (Switch t arms) = roots
+with_instruction roots (Dispatch t block) = roots
+with_instruction roots (MakeDue f) = roots
+with_instruction roots (Stop t) = roots
+with_instruction roots Return = roots
 
 abbrev pub with_block : List Root → Block → List Root
 with_block roots block = fold with_instruction roots block.code
@@ -79,10 +93,6 @@ abbrev pub roots_of : Routine → List Root
 roots_of routine = fold with_block [] routine.blocks
 
 -- ---- the homes of variables
-
--- so many bytes by whole words
-abbrev pub rounded : ℕ → ℕ
-rounded bytes = div_ceil bytes 4 * 4
 
 -- the variable with this number, of a routine with so many parameters
 abbrev pub keeping_of : Core → ℕ → List Root → ℕ → Variable → Keeping
@@ -127,10 +137,6 @@ abbrev pub home_at : List Home → LocalId → Home
 home_at homes v = home_or (slice_get homes v.0)
 
 -- ---- temporaries of record and array types, one behind the other
-
-abbrev pub size_of_root : Core → Root → ℕ
-size_of_root core (Temporary of n) = rounded (size_in core of)
-size_of_root core _ = 0
 
 -- where the temporary begins, if the first root begins at an offset
 abbrev pub offset_of : Core → Root → ℕ → List Root → ℕ

@@ -4,15 +4,17 @@ use Rattle.op_compute.specs.Bank.{error_block_of, register_of, scratch_of}
 use Rattle.op_compute.specs.Computing.{computation_code, constant_code}
 use Rattle.op_compute.specs.Conversions.{low_bits_code}
 use Rattle.op_compute.specs.declared.bank.RuntimeError.TheVariants.{RangeCheck}
-use Rattle.op_constants.specs.FirstBytes.{first_number}
+use Rattle.op_constants.specs.FirstBytes.{are_zeros, first_bytes, first_number}
 use Rattle.op_constants.specs.Literals.{first_of_row}
 use Rattle.op_constants.specs.Offsets.{alignment_in, size_in}
 use Rattle.op_constants.specs.Shapes.{is_composite}
+use Rattle.op_constants.specs.Texts.{number_of}
 use Rattle.op_core.specs.declared.ids.TypeId.{TypeId}
 use Rattle.op_core.specs.declared.program.Core.{Core}
 use Rattle.op_core.specs.declared.routine.Variable.{Variable}
 use Rattle.op_core.specs.declared.types.IntegerKind.{IntegerKind}
 use Rattle.op_core.specs.declared.types.IntegerKind.TheVariants.{Signed8, Unsigned8, Signed16, Unsigned16, Signed32}
+use Rattle.op_expand.specs.Homes.{rounded}
 use Rattle.op_expand.specs.Places.{home_of, place_code, place_of}
 use Rattle.op_expand.specs.declared.frame.Frame.{Frame}
 use Rattle.op_expand.specs.declared.homes.Home.{Home}
@@ -32,7 +34,7 @@ use Rattle.op_mir.specs.declared.path.Path.{Path}
 use Rattle.op_mir.specs.declared.path.Root.{Root}
 use Rattle.op_mir.specs.declared.path.Root.TheVariants.{Local}
 use Rattle.op_mir.specs.declared.path.Step.{Step}
-use Rattle.op_rt_text.specs.Names.{call, copy_bytes_number, copy_words_number, literal, take_number, write_bytes_number, write_char_number, write_number_number, write_truth_number}
+use Rattle.op_rt_text.specs.Names.{call, clear_number, copy_bytes_number, copy_words_number, literal, take_number, write_bytes_number, write_char_number, write_number_number, write_truth_number}
 use Rattle.op_rv.specs.Operation.{word_from}
 use Rattle.op_rv.specs.declared.instruction.AluOp.TheVariants.{Add}
 use Rattle.op_rv.specs.declared.instruction.BranchOp.TheVariants.{Bgeu}
@@ -168,20 +170,35 @@ taken_code core frame from size v =
     ∷ call take_number (place.base ∷ from ∷ []) from
     ∷ []
 
+-- from a literal
 abbrev pub parts_begun : Core → Frame → (size id : ℕ) → LocalId → List Instruction
 parts_begun core frame size id v = Address frame.spare (literal id) ∷ taken_code core frame frame.spare size v
 
+-- zeros in all words of a variable that begins as zero. A run-time routine puts them, and needs two registers too.
+unfoldable pub zeros_begun : Core → Frame → (size : ℕ) → LocalId → List Instruction
+zeros_begun core frame size v =
+    let place = place_of core frame 0 (Local v) [] (scratch_of frame.bank 0) in
+    if nat_eq size 0 then Const frame.spare 0 ∷ []
+    else
+    place_code core frame 0 (Local v) [] (scratch_of frame.bank 0)
+    ++ Const frame.spare (rounded size)
+    ∷ call clear_number (place.base ∷ frame.spare ∷ []) frame.spare
+    ∷ []
+
+abbrev pub composite_begun : Core → Frame → (texts : List (List ℕ)) → (size : ℕ) → (bytes : List ℕ) → LocalId → List Instruction
+composite_begun core frame texts size bytes v = if are_zeros bytes then zeros_begun core frame size v else parts_begun core frame size (number_of texts bytes) v
+
 -- a variable of the type, whose row tells what it begins with
-unfoldable pub begun_by : Core → Frame → (id : ℕ) → LocalId → TypeId → Option Variable → List Instruction
-begun_by core frame id v of row =
-    if is_composite (shape_of core of) then parts_begun core frame (size_in core of) id v
+unfoldable pub begun_by : Core → Frame → (texts : List (List ℕ)) → LocalId → TypeId → Option Variable → List Instruction
+begun_by core frame texts v of row =
+    if is_composite (shape_of core of) then composite_begun core frame texts (size_in core of) (first_bytes core of (first_of_row row)) v
     else number_begun core frame (kind_of core of) (first_number (first_of_row row)) v
 
 abbrev pub row_of : Core → Frame → LocalId → Option Variable
 row_of core frame v = slice_get core.variables (frame.first + v.0)
 
-abbrev pub begun_code : Core → Frame → (id : ℕ) → LocalId → List Instruction
-begun_code core frame id v = begun_by core frame id v (type_of_row (row_of core frame v)) (row_of core frame v)
+abbrev pub begun_code : Core → Frame → (texts : List (List ℕ)) → LocalId → List Instruction
+begun_code core frame texts v = begun_by core frame texts v (type_of_row (row_of core frame v)) (row_of core frame v)
 
 -- ---- literals
 
@@ -213,16 +230,16 @@ writing_code frame (Number from width) = written_by frame write_number_number (r
 writing_code frame (Truth from width) = written_by frame write_truth_number (register_of frame.bank from) (register_of frame.bank width)
 writing_code frame (Char from width) = written_by frame write_char_number (register_of frame.bank from) (register_of frame.bank width)
 
--- ---- actions; a literal that one takes has the number `id`
+-- ---- actions, where these texts are the literals
 
-abbrev pub action_code : Core → Frame → (id : ℕ) → Action → List Instruction
-action_code core frame id (Constant to n) = constant_code (register_of frame.bank to) n
-action_code core frame id (Load to kind from) = load_code core frame kind (register_of frame.bank to) from.root from.steps (scratch_of frame.bank 0)
-action_code core frame id (Store to kind from) = store_code core frame kind (register_of frame.bank from) to.root to.steps (scratch_of frame.bank 0)
-action_code core frame id (Copy of to from) = copy_code core frame of to from
-action_code core frame id (Look at) = place_code core frame near at.root at.steps (scratch_of frame.bank 0) ++ Const (scratch_of frame.bank 0) 0 ∷ []
-action_code core frame id (BeginWith v) = begun_code core frame id v
-action_code core frame id (Pick to text index) = pick_code frame id (register_of frame.bank to) (length text) (register_of frame.bank index)
-action_code core frame id (Compute c) = computation_code frame.bank c
-action_code core frame id (Write w) = writing_code frame w
-action_code core frame id (WriteText text width) = text_code frame id (length text) (register_of frame.bank width)
+abbrev pub action_code : Core → Frame → (texts : List (List ℕ)) → Action → List Instruction
+action_code core frame texts (Constant to n) = constant_code (register_of frame.bank to) n
+action_code core frame texts (Load to kind from) = load_code core frame kind (register_of frame.bank to) from.root from.steps (scratch_of frame.bank 0)
+action_code core frame texts (Store to kind from) = store_code core frame kind (register_of frame.bank from) to.root to.steps (scratch_of frame.bank 0)
+action_code core frame texts (Copy of to from) = copy_code core frame of to from
+action_code core frame texts (Look at) = place_code core frame near at.root at.steps (scratch_of frame.bank 0) ++ Const (scratch_of frame.bank 0) 0 ∷ []
+action_code core frame texts (BeginWith v) = begun_code core frame texts v
+action_code core frame texts (Pick to text index) = pick_code frame (number_of texts text) (register_of frame.bank to) (length text) (register_of frame.bank index)
+action_code core frame texts (Compute c) = computation_code frame.bank c
+action_code core frame texts (Write w) = writing_code frame w
+action_code core frame texts (WriteText text width) = text_code frame (number_of texts text) (length text) (register_of frame.bank width)

@@ -2,7 +2,6 @@
 use Rattle.std.specs.Prelude.{ℕ, ◌+◌, ◌^◌, pos, List, [], ◌∷◌, ◌++◌, length, nat_eq, nat_lt, take, if◌then◌else◌}
 use Rattle.op_compute.specs.Bank.{register_of, scratch_of, work_of}
 use Rattle.op_compute.specs.Branches.{block_of, dispatch_code, false_code, switch_code, true_code}
-use Rattle.op_constants.specs.Literals.{literals_in}
 use Rattle.op_constants.specs.Offsets.{size_in}
 use Rattle.op_constants.specs.Shapes.{is_composite}
 use Rattle.op_core.specs.Rows.{rows}
@@ -36,33 +35,23 @@ use Rattle.op_rt_text.specs.Names.{literal, register}
 use Rattle.op_rv.specs.declared.instruction.LoadOp.TheVariants.{Lw}
 use Rattle.op_rv.specs.declared.symbol.Symbol.TheVariants.{Global}
 
--- ---- instructions; a literal that one takes has the number `id`
+-- ---- instructions, where these texts are the literals
 
-abbrev pub instruction_code : Core → Mir → Frame → (id : ℕ) → Instruction → List LowInstruction
-instruction_code core mir frame id (Act action landing) = action_code core frame id action
-instruction_code core mir frame id (Call r operands) = call_code core mir frame r.0 operands
-instruction_code core mir frame id (Jump block) = LowJump (block_of block) ∷ []
-instruction_code core mir frame id (When t block) = true_code (work_of frame.bank) (register_of frame.bank t) block
-instruction_code core mir frame id (Unless t block) = false_code (work_of frame.bank) (register_of frame.bank t) block
-instruction_code core mir frame id (Switch t arms) = switch_code (work_of frame.bank) (register_of frame.bank t) arms
-instruction_code core mir frame id (Dispatch t block) = dispatch_code (work_of frame.bank) (register_of frame.bank t) block
-instruction_code core mir frame id (MakeDue f) = due_code core frame
-instruction_code core mir frame id (Stop t) = stop_code core (register_of frame.bank t)
-instruction_code core mir frame id Return = return_code core frame frame.returning
+abbrev pub instruction_code : Core → Mir → Frame → (texts : List (List ℕ)) → Instruction → List LowInstruction
+instruction_code core mir frame texts (Act action landing) = action_code core frame texts action
+instruction_code core mir frame texts (Call r operands) = call_code core mir frame r.0 operands
+instruction_code core mir frame texts (Jump block) = LowJump (block_of block) ∷ []
+instruction_code core mir frame texts (When t block) = true_code (work_of frame.bank) (register_of frame.bank t) block
+instruction_code core mir frame texts (Unless t block) = false_code (work_of frame.bank) (register_of frame.bank t) block
+instruction_code core mir frame texts (Switch t arms) = switch_code (work_of frame.bank) (register_of frame.bank t) arms
+instruction_code core mir frame texts (Dispatch t block) = dispatch_code (work_of frame.bank) (register_of frame.bank t) block
+instruction_code core mir frame texts (MakeDue f) = due_code core frame
+instruction_code core mir frame texts (Stop t) = stop_code core (register_of frame.bank t)
+instruction_code core mir frame texts Return = return_code core frame frame.returning
 
--- the literals of the code have the numbers from `id` on
-abbrev pub code_of : Core → Mir → Frame → (r id : ℕ) → List Instruction → List LowInstruction
-code_of core mir frame r id [] = []
-code_of core mir frame r id (i ∷ is) = instruction_code core mir frame id i ++ code_of core mir frame r (id + literals_in core r i) is
-
--- the next number of a literal behind code
-abbrev pub behind_code : Core → (r id : ℕ) → List Instruction → ℕ
-behind_code core r id [] = id
-behind_code core r id (i ∷ is) = behind_code core r (id + literals_in core r i) is
-
-abbrev pub behind_blocks : Core → (r id : ℕ) → List Block → ℕ
-behind_blocks core r id [] = id
-behind_blocks core r id (b ∷ bs) = behind_blocks core r (behind_code core r id b.code) bs
+abbrev pub code_of : Core → Mir → Frame → (texts : List (List ℕ)) → List Instruction → List LowInstruction
+code_of core mir frame texts [] = []
+code_of core mir frame texts (i ∷ is) = instruction_code core mir frame texts i ++ code_of core mir frame texts is
 
 -- ---- the beginning of a routine
 
@@ -113,10 +102,9 @@ abbrev pub error_blocks : List LowBlock
 error_blocks = error_block 200 3 ∷ error_block 201 4 ∷ error_block 202 5 ∷ error_block 215 6 ∷ []
 
 -- so much stands in front of the first block
-abbrev pub blocks_of : Core → Mir → Frame → (r id : ℕ) → List LowInstruction → List Block → List LowBlock
-blocks_of core mir frame r id front [] = []
-blocks_of core mir frame r id front (b ∷ bs) =
-    record { code = front ++ code_of core mir frame r id b.code } ∷ blocks_of core mir frame r (behind_code core r id b.code) [] bs
+abbrev pub blocks_of : Core → Mir → Frame → (texts : List (List ℕ)) → List LowInstruction → List Block → List LowBlock
+blocks_of core mir frame texts front [] = []
+blocks_of core mir frame texts front (b ∷ bs) = record { code = front ++ code_of core mir frame texts b.code } ∷ blocks_of core mir frame texts [] bs
 
 -- ---- routines
 
@@ -124,10 +112,10 @@ blocks_of core mir frame r id front (b ∷ bs) =
 abbrev pub most_charge : ℕ
 most_charge = 2 ^ 26
 
-abbrev pub all_blocks : Core → Mir → (r id : ℕ) → Routine → List LowBlock
-all_blocks core mir r id routine =
+abbrev pub all_blocks : Core → Mir → (texts : List (List ℕ)) → (r : ℕ) → Routine → List LowBlock
+all_blocks core mir texts r routine =
     let frame = frame_of core r routine in
-    blocks_of core mir frame r id (beginning core frame r) routine.blocks ++ error_blocks
+    blocks_of core mir frame texts (beginning core frame r) routine.blocks ++ error_blocks
 
 -- the program itself takes nothing
 abbrev pub low_parameters : Core → (r : ℕ) → ℕ
@@ -142,7 +130,7 @@ routine_with parameters locals blocks = record {
 }
 
 -- what is charged more than any stack has ends with error 202 at once
-abbrev pub low_routine : Core → Mir → (r id : ℕ) → Routine → LowRoutine
-low_routine core mir r id routine =
+abbrev pub low_routine : Core → Mir → (texts : List (List ℕ)) → (r : ℕ) → Routine → LowRoutine
+low_routine core mir texts r routine =
     if nat_lt most_charge routine.charge then routine_with (low_parameters core r) 0 (error_block 202 5 ∷ [])
-    else routine_with (low_parameters core r) (frame_of core r routine).locals (all_blocks core mir r id routine)
+    else routine_with (low_parameters core r) (frame_of core r routine).locals (all_blocks core mir texts r routine)

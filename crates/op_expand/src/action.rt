@@ -1,14 +1,16 @@
 //! The code of actions.
 ghost use Rattle.op_compute.specs.Bank.{register_of, scratch_of};
-ghost use Rattle.op_expand.specs.Moves.{action_code, begun_by, begun_code, number_begun, parts_begun, pick_code, row_of, text_code, writing_code, written_by};
+ghost use Rattle.op_expand.specs.Moves.{action_code, begun_by, begun_code, composite_begun, number_begun, parts_begun, pick_code, row_of, text_code, writing_code, written_by, zeros_begun};
 ghost use Rattle.op_constants.specs.FirstBytes.{first_number};
 ghost use Rattle.op_constants.specs.Literals.{first_of_row};
+ghost use Rattle.op_constants.specs.Texts.{number_of};
 ghost use Rattle.op_meaning.specs.Shapes.{type_of_row};
 ghost use Rattle.std.specs.Option.{option_copied};
-ghost use Rattle.std.specs.Prelude.{◌≡◌, ◌∷◌, ◌++◌, [], IfOk, OnOk};
+ghost use Rattle.std.specs.Prelude.{◌≡◌, ◌∷◌, ◌++◌, [], IfOk, OnOk, length};
 
 use crate::copy::{push_copy, push_taken};
 use crate::frame::Frame;
+use crate::homes::round;
 use crate::number::{NEAR, kind_of, push_load_from, push_store_to};
 use crate::place::push_place;
 use crate::push::{push_address, push_call, push_load};
@@ -16,24 +18,24 @@ use op_base::NoMemory;
 use op_compute::{
     RuntimeError, compute, constant, push_alu, push_branch, push_const, push_immediate,
 };
-use op_constants::{first_number, is_composite, size_of};
+use op_constants::{Texts, are_zeros, bytes_of_row, first_number, is_composite, size_of};
 use op_core::{Core, IntegerKind, TypeId, Variable};
 use op_low::{Instruction, VirtualRegister};
 use op_mir::{Action, LocalId, Root, TemporaryId, Writing};
-use op_rt_text::{WRITE_BYTES, WRITE_CHAR, WRITE_NUMBER, WRITE_TRUTH};
+use op_rt_text::{CLEAR, WRITE_BYTES, WRITE_CHAR, WRITE_NUMBER, WRITE_TRUTH};
 use op_rv::{AluOp, BranchOp, ImmOp, LiteralId, LoadOp, RoutineId, Symbol};
 use std::alloc::Global;
 
-/// What an action does. A literal that it takes has the number `id`.
+/// What an action does, where these are the literals.
 pub fn push_action(
     alloc: Global,
     code: &mut Vec<Instruction>,
     core: &Core,
     frame: &Frame,
-    id: u32,
+    literals: &Texts,
     action: &Action,
 ) -> Result<(), NoMemory>
-    ensures { OnOk result (code.new.items ≡ code.old.items ++ action_code core.now frame.now id action.now) }
+    ensures { OnOk result (code.new.items ≡ code.old.items ++ action_code core.now frame.now literals.now action.now) }
 {
     let bank = frame.bank;
     match action {
@@ -72,14 +74,16 @@ pub fn push_action(
             push_place(code, core, frame, NEAR, at.root, at.steps.as_slice(), free)?;
             push_const(code, free, 0)
         }
-        Action::BeginWith { variable } => push_begun(alloc, code, core, frame, id, *variable),
+        Action::BeginWith { variable } => {
+            push_begun(alloc, code, core, frame, literals, *variable)
+        },
         Action::Pick { to, text, index } => {
-            push_pick(code, frame, id, *to, text.as_slice().len(), *index)
+            push_pick(code, frame, literals, *to, text.as_slice(), *index)
         }
         Action::Compute(computation) => compute(code, bank, *computation),
         Action::Write(writing) => push_writing(alloc, code, frame, *writing),
         Action::WriteText { text, width } => {
-            push_text(alloc, code, frame, id, text.as_slice().len(), *width)
+            push_text(alloc, code, frame, literals, text.as_slice(), *width)
         }
     }
 }
@@ -90,13 +94,22 @@ fn push_begun(
     code: &mut Vec<Instruction>,
     core: &Core,
     frame: &Frame,
-    id: u32,
+    literals: &Texts,
     variable: LocalId,
 ) -> Result<(), NoMemory>
-    ensures { OnOk result (code.new.items ≡ code.old.items ++ begun_code core.now frame.now id variable) }
+    ensures { OnOk result (code.new.items ≡ code.old.items ++ begun_code core.now frame.now literals.now variable) }
 {
     let row = row_of(core, frame, variable);
-    push_begun_by(alloc, code, core, frame, id, variable, type_of(row), row)
+    push_begun_by(
+        alloc,
+        code,
+        core,
+        frame,
+        literals,
+        variable,
+        type_of(row),
+        row,
+    )
 }
 
 fn row_of<'a>(core: &'a Core, frame: &Frame, variable: LocalId) -> Option<&'a Variable>
@@ -112,15 +125,17 @@ fn push_begun_by(
     code: &mut Vec<Instruction>,
     core: &Core,
     frame: &Frame,
-    id: u32,
+    literals: &Texts,
     variable: LocalId,
     of: TypeId,
     row: Option<&Variable>,
 ) -> Result<(), NoMemory>
-    ensures { OnOk result (code.new.items ≡ code.old.items ++ begun_by core.now frame.now id variable of (option_copied row.entry)) }
+    ensures { OnOk result (code.new.items ≡ code.old.items ++ begun_by core.now frame.now literals.now variable of (option_copied row.entry)) }
 {
     if is_composite(core, of) {
-        return push_parts_begun(alloc, code, core, frame, size_of(core, of), id, variable);
+        let bytes = bytes_of_row(alloc, core, of, row)?;
+        let size = size_of(core, of);
+        return push_composite_begun(alloc, code, core, frame, literals, size, &bytes, variable);
     }
     push_number_begun(
         code,
@@ -180,6 +195,47 @@ fn push_number_begun(
     )
 }
 
+/// Zeros, or the bytes of a literal.
+fn push_composite_begun(
+    alloc: Global,
+    code: &mut Vec<Instruction>,
+    core: &Core,
+    frame: &Frame,
+    literals: &Texts,
+    size: u32,
+    bytes: &[u8],
+    variable: LocalId,
+) -> Result<(), NoMemory>
+    ensures { OnOk result (code.new.items ≡ code.old.items ++ composite_begun core.now frame.now literals.now size bytes.now variable) }
+{
+    if are_zeros(bytes) {
+        return push_zeros_begun(alloc, code, core, frame, size, variable);
+    }
+    let id = number_in(literals, bytes)?;
+    push_parts_begun(alloc, code, core, frame, size, id, variable)
+}
+
+#[tactic(auto, unfolding(crate::specs::Moves::zeros_begun))]
+fn push_zeros_begun(
+    alloc: Global,
+    code: &mut Vec<Instruction>,
+    core: &Core,
+    frame: &Frame,
+    size: u32,
+    variable: LocalId,
+) -> Result<(), NoMemory>
+    ensures { OnOk result (code.new.items ≡ code.old.items ++ zeros_begun core.now frame.now size variable) }
+{
+    if size == 0 {
+        return push_const(code, frame.spare, 0);
+    }
+    let root = Root::Local { variable };
+    let place = push_place(code, core, frame, 0, root, &[], frame.bank.scratch(0)?)?;
+    push_const(code, frame.spare, round(size)?)?;
+    let arguments = vec![in alloc; place.base, frame.spare]?;
+    push_call(code, CLEAR, arguments, frame.spare)
+}
+
 /// The bytes of a literal.
 fn push_parts_begun(
     alloc: Global,
@@ -203,25 +259,36 @@ fn length(bytes: usize) -> Result<u32, NoMemory>
     u32::try_from(bytes).ok().ok_or(NoMemory)
 }
 
-/// A Char of a literal of so many bytes, by its index from 1, or error 201.
+/// The number of a literal.
+fn number_in(literals: &Texts, text: &[u8]) -> Result<u32, NoMemory>
+    ensures { IfOk result (λ n. n ≡ number_of literals.now text.now) }
+{
+    length(literals.number_of(text))
+}
+
+/// A Char of a text, by its index from 1, or error 201.
 fn push_pick(
     code: &mut Vec<Instruction>,
     frame: &Frame,
-    id: u32,
+    literals: &Texts,
     to: TemporaryId,
-    bytes: usize,
+    text: &[u8],
     index: TemporaryId,
 ) -> Result<(), NoMemory>
-    ensures { OnOk result (code.new.items ≡ code.old.items ++ pick_code frame.now id (register_of frame.now.bank to) bytes (register_of frame.now.bank index)) }
+    ensures { OnOk result (code.new.items ≡ code.old.items ++ pick_code frame.now (number_of literals.now text.now) (register_of frame.now.bank to) (length text.now) (register_of frame.now.bank index)) }
 {
     let bank = frame.bank;
     let place = bank.scratch(0)?;
     let via = bank.scratch(1)?;
     let block = bank.error_block(RuntimeError::RangeCheck)?;
     push_immediate(code, ImmOp::Addi, place, bank.temporary(index)?, -1)?;
-    push_const(code, via, length(bytes)?)?;
+    push_const(code, via, length(text.len())?)?;
     push_branch(code, BranchOp::Bgeu, place, via, block)?;
-    push_address(code, via, Symbol::Literal(LiteralId(id)))?;
+    push_address(
+        code,
+        via,
+        Symbol::Literal(LiteralId(number_in(literals, text)?)),
+    )?;
     push_alu(code, AluOp::Add, place, via, place)?;
     push_load(code, LoadOp::Lbu, bank.temporary(to)?, place, 0)
 }
@@ -230,16 +297,20 @@ fn push_text(
     alloc: Global,
     code: &mut Vec<Instruction>,
     frame: &Frame,
-    id: u32,
-    bytes: usize,
+    literals: &Texts,
+    text: &[u8],
     width: TemporaryId,
 ) -> Result<(), NoMemory>
-    ensures { OnOk result (code.new.items ≡ code.old.items ++ text_code frame.now id bytes (register_of frame.now.bank width)) }
+    ensures { OnOk result (code.new.items ≡ code.old.items ++ text_code frame.now (number_of literals.now text.now) (length text.now) (register_of frame.now.bank width)) }
 {
     let address = frame.bank.scratch(0)?;
     let count = frame.bank.scratch(1)?;
-    push_address(code, address, Symbol::Literal(LiteralId(id)))?;
-    push_const(code, count, length(bytes)?)?;
+    push_address(
+        code,
+        address,
+        Symbol::Literal(LiteralId(number_in(literals, text)?)),
+    )?;
+    push_const(code, count, length(text.len())?)?;
     let arguments = vec![in alloc; address, count, frame.bank.temporary(width)?]?;
     push_call(code, WRITE_BYTES, arguments, address)
 }

@@ -1,38 +1,37 @@
 //! Instructions and blocks.
 ghost use Rattle.op_low.specs.declared.instruction.Instruction.{Instruction as LowInstruction};
-ghost use Rattle.op_expand.specs.Routines.{behind_blocks, behind_code, blocks_of, code_of, error_block, error_blocks, error_code, instruction_code};
+ghost use Rattle.op_expand.specs.Routines.{blocks_of, code_of, error_block, error_blocks, error_code, instruction_code};
 ghost use Rattle.std.specs.Prelude.{◌≡◌, ◌∷◌, ◌++◌, [], IfOk, OnOk};
 
 use crate::action::push_action;
 use crate::call::{LEFT, RESULT_ADDRESS, push_call_of, push_return};
 use crate::closing::{push_due, push_exit, push_stop};
 use crate::frame::Frame;
-use crate::homes::sum;
 use crate::push::push_address;
 use op_base::{NoMemory, Sequence};
 use op_compute::{branch_if_false, branch_if_true, dispatch, push, push_const, switch};
-use op_constants::{ERROR_200, ERROR_201, ERROR_202, ERROR_215, literals_in};
-use op_core::{Core, RoutineId};
+use op_constants::{ERROR_200, ERROR_201, ERROR_202, ERROR_215, Texts};
+use op_core::Core;
 use op_low::Output;
 use op_mir::{Block, Instruction, Mir};
 use op_rv::{BlockId, LiteralId, Symbol};
 use std::alloc::Global;
 
-/// What an instruction does. A literal that it takes has the number `id`.
+/// What an instruction does, where these are the literals.
 fn push_instruction(
     alloc: Global,
     code: &mut Vec<op_low::Instruction>,
     core: &Core,
     mir: &Mir,
     frame: &Frame,
-    id: u32,
+    literals: &Texts,
     instruction: &Instruction,
 ) -> Result<(), NoMemory>
-    ensures { OnOk result (code.new.items ≡ code.old.items ++ instruction_code core.now mir.now frame.now id instruction.now) }
+    ensures { OnOk result (code.new.items ≡ code.old.items ++ instruction_code core.now mir.now frame.now literals.now instruction.now) }
 {
     let bank = frame.bank;
     match instruction {
-        Instruction::Act { action, .. } => push_action(alloc, code, core, frame, id, action),
+        Instruction::Act { action, .. } => push_action(alloc, code, core, frame, literals, action),
         Instruction::Call { routine, call } => {
             push_call_of(alloc, code, core, mir, frame, *routine, call)
         }
@@ -54,93 +53,46 @@ fn push_jump(code: &mut Vec<op_low::Instruction>, block: u32) -> Result<(), NoMe
     push(code, op_low::Instruction::Jump { block })
 }
 
-/// The code of a block. Its literals have the numbers from `first` on.
+/// The code of a block.
 fn push_code(
     alloc: Global,
     code: &mut Vec<op_low::Instruction>,
     core: &Core,
     mir: &Mir,
     frame: &Frame,
-    routine: RoutineId,
-    first: u32,
+    literals: &Texts,
     instructions: &[Instruction],
 ) -> Result<(), NoMemory>
-    ensures { OnOk result (code.new.items ≡ code.old.items ++ code_of core.now mir.now frame.now routine.0 first instructions.now) }
+    ensures { OnOk result (code.new.items ≡ code.old.items ++ code_of core.now mir.now frame.now literals.now instructions.now) }
 {
-    let mut id = first;
     for instruction in instructions {
-        push_instruction(alloc, code, core, mir, frame, id, instruction)?;
-        id = sum(id, literals_in(core, routine, instruction))?;
+        push_instruction(alloc, code, core, mir, frame, literals, instruction)?;
     }
     Ok(())
 }
 
-/// The next number of a literal behind code.
-fn behind_code(
-    core: &Core,
-    routine: RoutineId,
-    first: u32,
-    instructions: &[Instruction],
-) -> Result<u32, NoMemory>
-    ensures { IfOk result (λ id. id ≡ behind_code core.now routine.0 first instructions.now) }
-{
-    let mut id = first;
-    for instruction in instructions {
-        id = sum(id, literals_in(core, routine, instruction))?;
-    }
-    Ok(id)
-}
-
-/// The next number of a literal behind blocks.
-pub fn behind_blocks(
-    core: &Core,
-    routine: RoutineId,
-    first: u32,
-    blocks: &[Block],
-) -> Result<u32, NoMemory>
-    ensures { IfOk result (λ id. id ≡ behind_blocks core.now routine.0 first blocks.now) }
-{
-    let mut id = first;
-    for block in blocks {
-        id = behind_code(core, routine, id, block.code.as_slice())?;
-    }
-    Ok(id)
-}
-
-/// Blocks from the first literal on, with code that stands in front of the first one.
+/// Blocks, with code that stands in front of the first one.
 pub fn push_blocks(
     alloc: Global,
     low: &mut Vec<op_low::Block>,
     core: &Core,
     mir: &Mir,
     frame: &Frame,
-    routine: RoutineId,
-    first: u32,
+    literals: &Texts,
     front: Vec<op_low::Instruction>,
     blocks: &[Block],
 ) -> Result<(), NoMemory>
-    ensures { OnOk result (low.new.items ≡ low.old.items ++ blocks_of core.now mir.now frame.now routine.0 first front.items blocks.now) }
+    ensures { OnOk result (low.new.items ≡ low.old.items ++ blocks_of core.now mir.now frame.now literals.now front.items blocks.now) }
 {
-    let mut id = first;
     let mut code = front;
     for block in blocks {
         let instructions = block.code.as_slice();
-        push_code(
-            alloc,
-            &mut code,
-            core,
-            mir,
-            frame,
-            routine,
-            id,
-            instructions,
-        )?;
+        push_code(alloc, &mut code, core, mir, frame, literals, instructions)?;
         code.shrink_to_fit();
         low.push(op_low::Block {
             code: Sequence::from(code),
         })?;
         code = Vec::new(alloc);
-        id = behind_code(core, routine, id, instructions)?;
     }
     Ok(())
 }

@@ -66,7 +66,7 @@ fn finalizations(alloc: Global, core: &Core) -> Result<Vec<RoutineId>, NoMemory>
     Ok(parts)
 }
 
-fn small(number: usize) -> Result<u32, NoMemory>
+pub fn small(number: usize) -> Result<u32, NoMemory>
     ensures { IfOk result (λ n. n ≡ number) }
 {
     u32::try_from(number).ok().ok_or(NoMemory)

@@ -1,10 +1,11 @@
 //! Global variables.
-ghost use Rattle.op_expand.specs.Programs.{global_of, globals_in, no_bytes, stack_global, with_global};
+ghost use Rattle.op_expand.specs.Programs.{global_of, global_with, globals_in, no_bytes, stack_global, with_global};
 ghost use Rattle.std.specs.Option.{option_copied};
 ghost use Rattle.std.specs.Prelude.{◌≡◌, ◌∷◌, ◌++◌, [], IfOk, OnOk, length, replicate, slice_set};
 
+use crate::closing::small;
 use op_base::{NoMemory, Sequence};
-use op_constants::{first_bytes, size_of};
+use op_constants::{are_zeros, first_bytes, size_of};
 use op_core::{Core, Variable, VariableId};
 use op_rv::GlobalVariable;
 use std::alloc::Global;
@@ -28,6 +29,16 @@ fn with_bytes(bytes: Vec<u8>) -> GlobalVariable
     }
 }
 
+/// What begins with these bytes. What begins as zero has none of its own.
+fn global_with(alloc: Global, bytes: Vec<u8>) -> Result<GlobalVariable, NoMemory>
+    ensures { IfOk result (λ global. global ≡ global_with bytes.items) }
+{
+    if are_zeros(&bytes) {
+        return Ok(zeros(alloc, small(bytes.len())?));
+    }
+    Ok(with_bytes(bytes))
+}
+
 /// A variable with what it begins with.
 fn global(
     alloc: Global,
@@ -41,7 +52,7 @@ fn global(
     };
     match &row.first_value {
         None => Ok(zeros(alloc, size_of(core, row.of))),
-        Some(initial) => Ok(with_bytes(first_bytes(alloc, core, row.of, initial)?)),
+        Some(initial) => global_with(alloc, first_bytes(alloc, core, row.of, initial)?),
     }
 }
 

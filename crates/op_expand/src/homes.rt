@@ -4,12 +4,12 @@ ghost use Rattle.op_meaning.specs.Shapes.{is_reference};
 ghost use Rattle.op_rt_text.specs.Names.{register};
 ghost use Rattle.std.specs.Prelude.{◌≡◌, ◌+◌, ◌++◌, IfOk, OnOk};
 
-use crate::root::{has_root, one_root};
+use crate::root::has_root;
 use op_base::NoMemory;
 use op_constants::{is_composite, size_of};
 use op_core::{Core, Role, Variable};
 use op_low::VirtualRegister;
-use op_mir::{LocalId, Root};
+use op_mir::{LocalId, Root, one_root};
 use op_rv::GlobalId;
 use op_tree::ParameterMode;
 use std::alloc::Global;
@@ -49,7 +49,7 @@ pub fn sum(a: u32, b: u32) -> Result<u32, NoMemory>
 }
 
 /// So many bytes by whole words.
-fn round(bytes: u32) -> Result<u32, NoMemory>
+pub fn round(bytes: u32) -> Result<u32, NoMemory>
     ensures { IfOk result (λ n. n ≡ rounded bytes) }
 {
     bytes.div_ceil(4).checked_mul(4).ok_or(NoMemory)

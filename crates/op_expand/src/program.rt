@@ -1,28 +1,34 @@
 //! Programs.
-ghost use Rattle.op_expand.specs.Programs.{behind_routines, first_literal, low_of, routine_without_code, routines_from, without_code};
-ghost use Rattle.op_expand.specs.Routines.{behind_blocks, low_routine};
+ghost use Rattle.op_expand.specs.Programs.{low_with, routine_without_code, routines_from, without_code};
+ghost use Rattle.op_expand.specs.Routines.{low_routine};
 ghost use Rattle.std.specs.Prelude.{◌≡◌, ◌∷◌, ◌++◌, [], IfOk, OnOk, length};
 
-use crate::block::behind_blocks;
-use crate::closing::push_closing_routine;
+use crate::closing::{push_closing_routine, small};
 use crate::global::globals;
 use crate::homes::sum;
 use crate::routine::routine;
 use op_base::{NoMemory, Sequence};
-use op_constants::FIXED_LITERALS;
+use op_constants::Texts;
 use op_core::{Core, RoutineId};
 use op_low::{Counts, Low};
 use op_mir::{Mir, Routine};
 use op_rt_text::{RUNTIME, routines};
 use std::alloc::Global;
 
-/// A program in low code, of a program in managed code beside its tables, for a stack of so many bytes. The managed code of each routine is
-/// freed once low code is made of it. `NoMemory` comes only where the allocator has no room, or a number would pass 32 bits.
-pub fn expand(alloc: Global, core: &Core, mir: Mir, stack: u32) -> Result<Low, NoMemory>
-    ensures { IfOk result (λ low. low ≡ low_of core.now mir stack) }
+/// A program in low code, of a program in managed code beside its tables, for a stack of so many bytes, where these are the literals. The
+/// managed code of each routine is freed once low code is made of it. `NoMemory` comes only where the allocator has no room, or a number
+/// would pass 32 bits.
+pub fn expand(
+    alloc: Global,
+    core: &Core,
+    mir: Mir,
+    stack: u32,
+    literals: &Texts,
+) -> Result<Low, NoMemory>
+    ensures { IfOk result (λ low. low ≡ low_with literals.now core.now mir stack) }
 {
     let charges = without_code(alloc, &mir)?;
-    expanded(alloc, core, &charges, mir, stack)
+    expanded(alloc, core, &charges, mir, stack, literals)
 }
 
 fn expanded(
@@ -31,9 +37,10 @@ fn expanded(
     charges: &Mir,
     mir: Mir,
     stack: u32,
+    literals: &Texts,
 ) -> Result<Low, NoMemory>
     requires { charges.now ≡ without_code mir }
-    ensures { IfOk result (λ low. low ≡ low_of core.now mir stack) }
+    ensures { IfOk result (λ low. low ≡ low_with literals.now core.now mir stack) }
 {
     let Mir {
         routines: list,
@@ -41,14 +48,14 @@ fn expanded(
         ..
     } = mir;
     let mut low = routines(alloc)?;
-    let (id, first) = push_routines(alloc, &mut low, core, charges, list)?;
-    let literals = push_routine(alloc, &mut low, core, charges, id, first, program)?;
+    let id = push_routines(alloc, &mut low, core, charges, literals, list)?;
+    push_routine(alloc, &mut low, core, charges, literals, id, program)?;
     push_closing_routine(alloc, &mut low, core, charges, stack)?;
     Ok(Low {
         routines: Sequence::from(low),
         entry: op_rv::RoutineId(sum(RUNTIME, id.0)?),
         counts: Counts {
-            literals,
+            literals: small(literals.len())?,
             tables: 0,
             descriptors: 0,
         },
@@ -56,41 +63,40 @@ fn expanded(
     })
 }
 
-/// The routines in order. The answer is the next number of a routine, and of a literal.
+/// The routines in order. The answer is the next number of a routine.
 fn push_routines(
     alloc: Global,
     low: &mut Vec<op_low::Routine>,
     core: &Core,
     charges: &Mir,
+    literals: &Texts,
     list: Sequence<Routine>,
-) -> Result<(RoutineId, u32), NoMemory>
-    ensures routines { OnOk result (low.new.items ≡ low.old.items ++ routines_from core.now charges.now 0 first_literal list) }
-    ensures next { IfOk result (λ next. (next.0.0 ≡ length list) × (next.1 ≡ behind_routines core.now 0 first_literal list)) }
+) -> Result<RoutineId, NoMemory>
+    ensures routines { OnOk result (low.new.items ≡ low.old.items ++ routines_from core.now charges.now literals.now 0 list) }
+    ensures next { IfOk result (λ next. next.0 ≡ length list) }
 {
     let mut id = RoutineId(0);
-    let mut literal = FIXED_LITERALS;
     for each in list.into_vec() {
-        literal = push_routine(alloc, low, core, charges, id, literal, each)?;
+        push_routine(alloc, low, core, charges, literals, id, each)?;
         id = RoutineId(sum(id.0, 1)?);
     }
-    Ok((id, literal))
+    Ok(id)
 }
 
-/// The routine with this number, whose literals have the numbers from `first` on. The answer is the next number of a literal.
+/// The routine with this number.
 fn push_routine(
     alloc: Global,
     low: &mut Vec<op_low::Routine>,
     core: &Core,
     charges: &Mir,
+    literals: &Texts,
     id: RoutineId,
-    first: u32,
     each: Routine,
-) -> Result<u32, NoMemory>
-    ensures routine { OnOk result (low.new.items ≡ low.old.items ++ low_routine core.now charges.now id.0 first each ∷ []) }
-    ensures literal { IfOk result (λ literal. literal ≡ behind_blocks core.now id.0 first each.blocks) }
+) -> Result<(), NoMemory>
+    ensures { OnOk result (low.new.items ≡ low.old.items ++ low_routine core.now charges.now literals.now id.0 each ∷ []) }
 {
-    low.push(routine(alloc, core, charges, id, first, &each)?)?;
-    behind_blocks(core, id, first, each.blocks.as_slice())
+    low.push(routine(alloc, core, charges, literals, id, &each)?)?;
+    Ok(())
 }
 
 /// What calls read of a program: its routines with their charges, and no code.

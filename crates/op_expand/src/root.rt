@@ -4,38 +4,8 @@ ghost use Rattle.std.specs.List.{fold, list_any};
 ghost use Rattle.std.specs.Prelude.{◌≡◌, IfOk, OnOk};
 
 use op_base::NoMemory;
-use op_core::TypeId;
-use op_mir::{Action, Block, Call, Given, Instruction, LocalId, Receiver, Root, Routine};
+use op_mir::{Action, Block, Call, Given, Instruction, Receiver, Root, Routine, one_root};
 use std::alloc::Global;
-
-/// Whether it is the same variable of the activation, or the same temporary.
-pub fn one_root(a: Root, b: Root) -> bool
-    ensures { result ≡ is_one_root a b }
-{
-    match a {
-        Root::Local { variable } => is_local(b, variable),
-        Root::Temporary { of, number } => is_temporary(b, of, number),
-        _ => false,
-    }
-}
-
-fn is_local(root: Root, local: LocalId) -> bool
-    ensures { result ≡ is_one_root (Root.Local local) root }
-{
-    match root {
-        Root::Local { variable } => variable.0 == local.0,
-        _ => false,
-    }
-}
-
-fn is_temporary(root: Root, whole: TypeId, n: u32) -> bool
-    ensures { result ≡ is_one_root (Root.Temporary whole n) root }
-{
-    match root {
-        Root::Temporary { of, number } => of.0 == whole.0 && number == n,
-        _ => false,
-    }
-}
 
 pub fn has_root(roots: &[Root], root: Root) -> bool
     ensures { result ≡ list_any (is_one_root root) roots.now }

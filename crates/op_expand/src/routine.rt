@@ -9,6 +9,7 @@ use crate::homes::sum;
 use crate::receive::push_beginning;
 use crate::registers::registers_in;
 use op_base::{NoMemory, Sequence};
+use op_constants::Texts;
 use op_core::{Core, RoutineId};
 use op_mir::{Mir, Routine};
 use std::alloc::Global;
@@ -16,17 +17,16 @@ use std::alloc::Global;
 /// No stack has room for an activation that is charged more.
 const MOST_CHARGE: u64 = 1 << 26;
 
-/// The routine with this number, whose literals have the numbers from `first` on. What is charged more than any stack has ends with
-/// error 202 at once.
+/// The routine with this number, where these are the literals. What is charged more than any stack has ends with error 202 at once.
 pub fn routine(
     alloc: Global,
     core: &Core,
     mir: &Mir,
+    literals: &Texts,
     id: RoutineId,
-    first: u32,
     routine: &Routine,
 ) -> Result<op_low::Routine, NoMemory>
-    ensures { IfOk result (λ low. low ≡ low_routine core.now mir.now id.0 first routine.now) }
+    ensures { IfOk result (λ low. low ≡ low_routine core.now mir.now literals.now id.0 routine.now) }
 {
     let parameters = parameters_in(core, id)?;
     if MOST_CHARGE < routine.charge {
@@ -35,7 +35,7 @@ pub fn routine(
         return routine_with(parameters, 0, blocks);
     }
     let frame = frame_of(alloc, core, id, routine)?;
-    let blocks = all_blocks(alloc, core, mir, &frame, id, first, routine)?;
+    let blocks = all_blocks(alloc, core, mir, &frame, literals, id, routine)?;
     routine_with(parameters, frame.locals, blocks)
 }
 
@@ -70,12 +70,12 @@ fn all_blocks(
     core: &Core,
     mir: &Mir,
     frame: &Frame,
+    literals: &Texts,
     id: RoutineId,
-    first: u32,
     routine: &Routine,
 ) -> Result<Vec<op_low::Block>, NoMemory>
     requires { frame.now ≡ frame_of core.now id.0 routine.now }
-    ensures { IfOk result (λ blocks. blocks.items ≡ all_blocks core.now mir.now id.0 first routine.now) }
+    ensures { IfOk result (λ blocks. blocks.items ≡ all_blocks core.now mir.now literals.now id.0 routine.now) }
 {
     let mut front = Vec::new(alloc);
     push_beginning(alloc, &mut front, core, frame, id)?;
@@ -86,8 +86,7 @@ fn all_blocks(
         core,
         mir,
         frame,
-        id,
-        first,
+        literals,
         front,
         routine.blocks.as_slice(),
     )?;

@@ -1,12 +1,12 @@
 -- How many scratch registers variables begin with, and what a routine without statements does: its variables begin with their values, and it returns.
-use Rattle.std.proofs.Common.{◌≡◌, ◌<◌, ◌≤◌, ◌⊎◌, inl, inr, ℕ, zero, suc, ◌+◌, Bool, true, false, List, [], ◌∷◌, length, map, fold, take, drop, nat_lt, Option, Some, None, slice_get, refl, sym, ap, ◌∙◌, subst, arith, if◌then◌else◌}
+use Rattle.std.proofs.Common.{◌≡◌, ◌<◌, ◌≤◌, ◌⊎◌, inl, inr, ℕ, zero, suc, ◌+◌, Bool, true, false, List, [], ◌∷◌, length, map, fold, take, nat_lt, Option, Some, None, slice_get, refl, sym, ap, ◌∙◌, subst, arith, if◌then◌else◌}
 use Rattle.std.specs.List.{list_any}
 use Rattle.op_constants.specs.Offsets.{size_in}
 use Rattle.op_constants.specs.Shapes.{is_composite}
+use Rattle.op_core.proofs.Rows.{row_at}
 use Rattle.op_core.specs.Initial.{FirstValue}
 use Rattle.op_core.specs.Rows.{rows}
 use Rattle.op_core.specs.Statement.{BuiltIn, write, read, count, set_length, include, exclude, val, str, free as free_of, destroy, Statement, empty, call as call_statement, built_in, Statements, no_statements, statements}
-use Rattle.op_core.specs.declared.ids.Run.{Run}
 use Rattle.op_core.specs.declared.ids.TypeId.{TypeId}
 use Rattle.op_core.specs.declared.program.Core.{Core}
 use Rattle.op_core.specs.declared.routine.Variable.{Variable}
@@ -107,20 +107,6 @@ module _ (Q : Instr → Type 0) (blocks : ℕ) (env : Env) (here : Here) where
   none_works (statements s ss) c e = made_both Q blocks (work_of env here s) (work_of_all env here ss) (no_work s c.0 (omega (arith, e))) (none_works ss c.1 (omega (arith, e)))
 
 -- ---- rows of variables
-
-dropped : {A : Type 0} (n k : ℕ) (xs : List A) → slice_get (drop n xs) k ≡ slice_get xs (n + k)
-dropped zero k xs = let e : k ≡ 0 + k = omega arith in ap (slice_get xs) e
-dropped (suc n) k [] = refl
-dropped (suc n) k (y ∷ ys) = let e : suc (n + k) ≡ suc n + k = omega arith in dropped n k ys ∙ ap (slice_get (y ∷ ys)) e
-
-taken : {A : Type 0} (n k : ℕ) (xs : List A) → k < n → slice_get (take n xs) k ≡ slice_get xs k
-taken zero k xs few = absurd (omega arith)
-taken (suc n) k [] few = refl
-taken (suc n) zero (y ∷ ys) few = refl
-taken (suc n) (suc k) (y ∷ ys) few = taken n k ys (omega arith)
-
-row_at : {A : Type 0} (table : List A) (run : Run) (k : ℕ) → k < run.count → slice_get (rows table run) k ≡ slice_get table (run.first + k)
-row_at table run k few = taken run.count k (drop run.first table) few ∙ dropped run.first k table
 
 -- a variable of the routine with the number
 record HasRow (core : Core) (r v : ℕ) : Type 0 where

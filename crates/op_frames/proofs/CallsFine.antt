@@ -135,7 +135,7 @@ module _ (m : Bounds) (core : Core) (frame : Frame) (n : ℕ) (is : IsFrame m co
 
   -- ---- calls
 
-  pub call_fine : (mir : Mir) (r : ℕ) (operands : Call) → Every (IsNamedGiven core) (map view_given operands.given) → IsNamedReceiver core (view_receiver operands.receiver) → max (most_of in_given operands.given) (in_receiver operands.receiver) ≤ n → frame.bank.scratch + (1 + receiver_room (view_receiver operands.receiver) + givens_room (map view_given operands.given)) ≤ m.registers → takes (slice_get m.low.routines (8 + r)) (suc (suc (length operands.given))) ≡ true → AreFine m (call_code core mir frame r operands)
+  pub call_fine : (mir : Mir) (r : ℕ) (operands : Call) → Every (IsNamedGiven core) (map view_given operands.given) → IsNamedReceiver core (view_receiver operands.receiver) → max (most_of in_given operands.given) (in_receiver operands.receiver) ≤ n → frame.bank.scratch + (1 + receiver_room (view_receiver operands.receiver) + givens_room (map view_given operands.given)) ≤ m.registers → takes (slice_get m.low.routines (9 + r)) (suc (suc (length operands.given))) ≡ true → AreFine m (call_code core mir frame r operands)
   call_fine mir r operands named to_named t room there =
       let given = scratch_of frame.bank 0 in
       let g : Below m given = omega (arith, room) in
@@ -146,7 +146,7 @@ module _ (m : Bounds) (core : Core) (frame : Frame) (n : ℕ) (is : IsFrame m co
       let result = receiver_spot core frame operands.receiver (scratch_of frame.bank 1) in
       let s = receiver_there operands.receiver (scratch_of frame.bank 1) to_named to first in
       let rest : result.free.0 + givens_room (map view_given operands.given) ≤ m.registers = omega (arith, room, s.free_is) in
-      let count : takes (slice_get m.low.routines (8 + r)) (suc (suc (length (givens_in core frame operands.given result.free)))) ≡ true = subst (λ k. takes (slice_get m.low.routines (8 + r)) (suc (suc k)) ≡ true) (sym (givens_count operands.given result.free)) there in
+      let count : takes (slice_get m.low.routines (9 + r)) (suc (suc (length (givens_in core frame operands.given result.free)))) ≡ true = subst (λ k. takes (slice_get m.low.routines (9 + r)) (suc (suc k)) ≡ true) (sym (givens_count operands.given result.free)) there in
       let zero_left : 0 < m.registers = omega (arith, is.two) in
       let charged : AreFine m (charging_code frame given (charge_of mir r)) = ((g, charge_word mir r), ((zero_left, g, omega (arith, is.errors)), ((g, zero_left, g), tt))) in
       joined m _ _ (joined m _ _ (joined m _ _ (receiver_fine operands.receiver (scratch_of frame.bank 1) to_named to first) (givens_fine operands.given result.free named each rest)) charged)

@@ -26,7 +26,7 @@ part_count : (core : Core) (mir : Mir) (stack count before : ℕ) (fs : List Rou
 part_count core mir stack count before [] = refl
 part_count core mir stack count before (f ∷ fs) = ap suc (part_count core mir stack count (before + 1) fs)
 
-module _ (low : Low) (core : Core) (mir : Mir) (stack : ℕ) (globals : length core.variables < length low.globals) (enough : 7 ≤ low.counts.literals) (takes_part : Every (λ f. takes (slice_get low.routines (8 + f.0)) 2 ≡ true) (finalizations core)) where
+module _ (low : Low) (core : Core) (mir : Mir) (stack : ℕ) (globals : length core.variables < length low.globals) (enough : 7 ≤ low.counts.literals) (takes_part : Every (λ f. takes (slice_get low.routines (9 + f.0)) 2 ≡ true) (finalizations core)) where
   abbrev parts : ℕ
   parts = length (finalizations core)
 
@@ -49,7 +49,7 @@ module _ (low : Low) (core : Core) (mir : Mir) (stack : ℕ) (globals : length c
   unfolding has_symbol
   finding_fine = (((omega arith, word_there), ((omega arith, omega arith, refl), find_fine parts (omega arith))), ends_behind (Address due (due_word core) ∷ Load Lw due due (pos 0) ∷ []) (find_code stack parts) (find_ends parts))
 
-  part_fine : (before : ℕ) (f : RoutineId) → takes (slice_get low.routines (8 + f.0)) 2 ≡ true → IsFineBlock bounds (record { code = part_code core mir stack parts before f })
+  part_fine : (before : ℕ) (f : RoutineId) → takes (slice_get low.routines (9 + f.0)) 2 ≡ true → IsFineBlock bounds (record { code = part_code core mir stack parts before f })
   unfolding has_symbol leaves
   part_fine before f there = (
     (
@@ -59,7 +59,7 @@ module _ (low : Low) (core : Core) (mir : Mir) (stack : ℕ) (globals : length c
     refl,
   )
 
-  parts_fine : (before : ℕ) (fs : List RoutineId) → Every (λ f. takes (slice_get low.routines (8 + f.0)) 2 ≡ true) fs → Every (IsFineBlock bounds) (part_blocks core mir stack parts before fs)
+  parts_fine : (before : ℕ) (fs : List RoutineId) → Every (λ f. takes (slice_get low.routines (9 + f.0)) 2 ≡ true) fs → Every (IsFineBlock bounds) (part_blocks core mir stack parts before fs)
   parts_fine before [] there = tt
   parts_fine before (f ∷ fs) there = (part_fine before f there.0, parts_fine (before + 1) fs there.1)
 

@@ -3,10 +3,11 @@ use Rattle.std.proofs.Common.{◌≡◌, ◌<◌, ◌≤◌, ◌⊎◌, ℕ, suc
 use Rattle.std.specs.Int.{w32}
 use Rattle.op_compute.specs.Bank.{scratch_of}
 use Rattle.op_compute.specs.Branches.{block_of}
-use Rattle.op_constants.specs.FirstBytes.{first_number}
-use Rattle.op_constants.specs.Literals.{action_literals, first_of_row, literals_in}
+use Rattle.op_constants.specs.FirstBytes.{are_zeros, first_bytes, first_number}
+use Rattle.op_constants.specs.Literals.{action_literals, first_literals, first_of_row, instruction_literals}
 use Rattle.op_constants.specs.Offsets.{size_in}
 use Rattle.op_constants.specs.Shapes.{is_composite}
+use Rattle.op_constants.specs.Texts.{number_of}
 use Rattle.op_core.specs.declared.ids.TypeId.{TypeId}
 use Rattle.op_core.specs.declared.program.Core.{Core}
 use Rattle.op_core.specs.declared.routine.Variable.{Variable}
@@ -17,7 +18,7 @@ use Rattle.op_expand.specs.Calls.{left, result_address, number_code, parts_code,
 use Rattle.op_expand.specs.Frames.{frame_of}
 use Rattle.op_expand.specs.Homes.{parameter}
 use Rattle.op_expand.specs.Places.{at_register, place_code, place_of}
-use Rattle.op_expand.specs.Moves.{action_code, by_words, bytes_code, limit_of, load_code, begun_by, begun_code, held, near, number_begun, parts_begun, row_of, writing_code}
+use Rattle.op_expand.specs.Moves.{action_code, by_words, bytes_code, composite_begun, limit_of, load_code, begun_by, begun_code, held, near, number_begun, parts_begun, row_of, writing_code, zeros_begun}
 use Rattle.op_expand.specs.Routines.{instruction_code, code_of}
 use Rattle.op_expand.specs.declared.frame.Frame.{Frame}
 use Rattle.op_expand.specs.declared.frame.Returning.{Returning}
@@ -25,12 +26,13 @@ use Rattle.op_expand.specs.declared.frame.Returning.TheVariants.{Ending, Nothing
 use Rattle.op_frames.proofs.CallsFine.{CanReturn, TakesClosing, call_fine, due_fine, return_fine, stop_fine}
 use Rattle.op_frames.proofs.ComputingFine.{IsArm, HasWord, joined, constant_fine, true_fine, false_fine, switch_fine, dispatch_fine}
 use Rattle.op_frames.proofs.Fine.{Bounds, Below, AreFine}
-use Rattle.op_frames.proofs.MovesFine.{HasRuntime, load_fine, store_fine, copy_fine, path_fine, number_begun_fine, number_held_fine, parts_begun_fine, pick_fine, text_fine, register_below, written_fine, the_work, computation_fine}
+use Rattle.op_frames.proofs.MovesFine.{HasRuntime, zeros_begun_fine, load_fine, store_fine, copy_fine, path_fine, number_begun_fine, number_held_fine, parts_begun_fine, pick_fine, text_fine, register_below, written_fine, the_work, computation_fine}
 use Rattle.op_frames.proofs.PlacesFine.{IsFrame, Temporaries}
 use Rattle.op_frames.specs.Made.{Every, IsLast, Leaves}
 use Rattle.op_frames.specs.Named.{IsNamed, IsNamedAction, IsNamedArm, IsNamedLabel}
 use Rattle.op_frames.specs.Scratch.{action_room, room_in}
 use Rattle.op_low.specs.Valid.{leaves, takes}
+use Rattle.op_low.specs.declared.code.Low.{Low}
 use Rattle.op_low.specs.declared.ids.VirtualRegister.{VirtualRegister}
 use Rattle.op_low.specs.declared.instruction.Instruction.{Instruction as LowInstruction}
 use Rattle.op_low.specs.declared.instruction.Instruction.TheVariants.{Jump as LowJump, Return as LowReturn, Const, Exit}
@@ -102,22 +104,28 @@ unfolding leaves
 jump_ends block = refl
 
 -- the last instruction of managed code leaves it
-last_ends : (core : Core) (mir : Mir) (frame : Frame) (r id : ℕ) (i : Instruction) → IsLast (view_instruction core r i) → Ends (instruction_code core mir frame id i)
-last_ends core mir frame r id (Jump block) l = jump_ends block
-last_ends core mir frame r id Return l = return_ends core frame frame.returning
-last_ends core mir frame r id (Act action landing) l = absurd l
-last_ends core mir frame r id (Call f operands) l = absurd l
-last_ends core mir frame r id (When t block) l = absurd l
-last_ends core mir frame r id (Unless t block) l = absurd l
-last_ends core mir frame r id (Switch t arms) l = absurd l
-last_ends core mir frame r id (Dispatch t block) l = absurd l
-last_ends core mir frame r id (MakeDue f) l = absurd l
-last_ends core mir frame r id (Stop t) l = absurd l
+last_ends : (core : Core) (mir : Mir) (frame : Frame) (r : ℕ) (texts : List (List ℕ)) (i : Instruction) → IsLast (view_instruction core r i) → Ends (instruction_code core mir frame texts i)
+last_ends core mir frame r texts (Jump block) l = jump_ends block
+last_ends core mir frame r texts Return l = return_ends core frame frame.returning
+last_ends core mir frame r texts (Act action landing) l = absurd l
+last_ends core mir frame r texts (Call f operands) l = absurd l
+last_ends core mir frame r texts (When t block) l = absurd l
+last_ends core mir frame r texts (Unless t block) l = absurd l
+last_ends core mir frame r texts (Switch t arms) l = absurd l
+last_ends core mir frame r texts (Dispatch t block) l = absurd l
+last_ends core mir frame r texts (MakeDue f) l = absurd l
+last_ends core mir frame r texts (Stop t) l = absurd l
 
-pub code_ends : (core : Core) (mir : Mir) (frame : Frame) (r id : ℕ) (is : List Instruction) → Leaves (map (view_instruction core r) is) → Ends (code_of core mir frame r id is)
-code_ends core mir frame r id [] l = absurd l
-code_ends core mir frame r id (i ∷ []) l = subst Ends (sym (append-nil (instruction_code core mir frame id i))) (last_ends core mir frame r id i l)
-code_ends core mir frame r id (i ∷ j ∷ is) l = ends_behind (instruction_code core mir frame id i) _ (code_ends core mir frame r (id + literals_in core r i) (j ∷ is) l)
+pub code_ends : (core : Core) (mir : Mir) (frame : Frame) (r : ℕ) (texts : List (List ℕ)) (is : List Instruction) → Leaves (map (view_instruction core r) is) → Ends (code_of core mir frame texts is)
+code_ends core mir frame r texts [] l = absurd l
+code_ends core mir frame r texts (i ∷ []) l = subst Ends (sym (append-nil (instruction_code core mir frame texts i))) (last_ends core mir frame r texts i l)
+code_ends core mir frame r texts (i ∷ j ∷ is) l = ends_behind (instruction_code core mir frame texts i) _ (code_ends core mir frame r texts (j ∷ is) l)
+
+-- ---- literals
+
+-- a literal that code takes is counted
+abbrev pub IsNumbered : Low → List (List ℕ) → List ℕ → Type 0
+IsNumbered low texts text = number_of texts text < low.counts.literals
 
 -- ---- instructions
 
@@ -130,7 +138,7 @@ pub record CanBegin (m : Bounds) (core : Core) (frame : Frame) (v : LocalId) : T
 -- what an instruction asks of the program and of the frame
 abbrev pub CanDo : Bounds → Core → Frame → Instruction → Type 0
 CanDo m core frame (Act (BeginWith v) landing) = CanBegin m core frame v
-CanDo m core frame (Call r operands) = takes (slice_get m.low.routines (8 + r.0)) (suc (suc (length operands.given))) ≡ true
+CanDo m core frame (Call r operands) = takes (slice_get m.low.routines (9 + r.0)) (suc (suc (length operands.given))) ≡ true
 CanDo m core frame (Stop t) = TakesClosing m core
 CanDo m core frame Return = CanReturn m core frame frame.returning
 CanDo m core frame _ = Unit {0}
@@ -148,32 +156,40 @@ module _ (m : Bounds) (core : Core) (r : ℕ) (routine : Routine) (n blocks : �
       by None e = rw e refl
       by (Some x) e = row_by x (option_map (λ i. first_value_of i.value) x.first_value) refl e
 
-  begun_by_shape : (whole : Bool) (id : ℕ) (v : LocalId) (of : TypeId) (row : Option Variable) → (whole ≡ false → FitsSigned w32 (first_number (first_of_row row))) → (whole ≡ true → id < m.low.counts.literals)
+  composite_fine : (texts : List (List ℕ)) (bytes : List ℕ) (zeros : Bool) (v : LocalId) (of : TypeId) → (zeros ≡ false → number_of texts bytes < m.low.counts.literals) → (frame_of core r routine).bank.scratch + 1 ≤ m.registers → Below m (frame_of core r routine).spare
+      → AreFine m (if zeros then zeros_begun core (frame_of core r routine) (size_in core of) v else parts_begun core (frame_of core r routine) (size_in core of) (number_of texts bytes) v)
+  composite_fine texts bytes true v of there one spare = zeros_begun_fine m core (frame_of core r routine) n is temporaries runtime (size_in core of) v (is.sizes of) spare one
+  composite_fine texts bytes false v of there one spare = parts_begun_fine m core (frame_of core r routine) n is temporaries runtime (size_in core of) (number_of texts bytes) v (is.sizes of) (there refl) spare one
+
+  begun_by_shape : (whole : Bool) (texts : List (List ℕ)) (v : LocalId) (of : TypeId) (row : Option Variable) → (whole ≡ false → FitsSigned w32 (first_number (first_of_row row))) → (whole ≡ true → are_zeros (first_bytes core of (first_of_row row)) ≡ false → number_of texts (first_bytes core of (first_of_row row)) < m.low.counts.literals)
       → (frame_of core r routine).bank.scratch + 1 ≤ m.registers → (whole ≡ true → Below m (frame_of core r routine).spare)
       → (whole ≡ false → ((q : VirtualRegister) × (held core (frame_of core r routine) (Local v) [] ≡ Some q)) ⊎ ((frame_of core r routine).bank.scratch + 2 ≤ m.registers))
-      → AreFine m (if whole then parts_begun core (frame_of core r routine) (size_in core of) id v else number_begun core (frame_of core r routine) (kind_of core of) (first_number (first_of_row row)) v)
-  begun_by_shape true id v of row fits there one spare another = parts_begun_fine m core (frame_of core r routine) n is temporaries runtime (size_in core of) id v (is.sizes of) (there refl) (spare refl) one
-  begun_by_shape false id v of row fits there one spare another = by (another refl)
+      → AreFine m (if whole then composite_begun core (frame_of core r routine) texts (size_in core of) (first_bytes core of (first_of_row row)) v else number_begun core (frame_of core r routine) (kind_of core of) (first_number (first_of_row row)) v)
+  begun_by_shape true texts v of row fits there one spare another = composite_fine texts (first_bytes core of (first_of_row row)) (are_zeros (first_bytes core of (first_of_row row))) v of (there refl) one (spare refl)
+  begun_by_shape false texts v of row fits there one spare another = by (another refl)
     where
       by : ((q : VirtualRegister) × (held core (frame_of core r routine) (Local v) [] ≡ Some q)) ⊎ ((frame_of core r routine).bank.scratch + 2 ≤ m.registers) → AreFine m (number_begun core (frame_of core r routine) (kind_of core of) (first_number (first_of_row row)) v)
       by (inl (q, e)) = number_held_fine m core (frame_of core r routine) n is temporaries runtime (kind_of core of) (first_number (first_of_row row)) v q e (fits refl) one
       by (inr two) = number_begun_fine m core (frame_of core r routine) n is temporaries runtime (kind_of core of) (first_number (first_of_row row)) v (fits refl) two
 
-  -- a variable of a type with parts takes a literal
-  counted : (v : LocalId) → is_composite (shape_of core (type_of_local core r v.0)) ≡ true → 1 ≤ length (action_literals core r (BeginWith v))
-  counted v e = by (shape_of core (type_of_local core r v.0)) refl
-    where
-      by : (s : Shape) → shape_of core (type_of_local core r v.0) ≡ s → 1 ≤ length (action_literals core r (BeginWith v))
-      by composite i = let one : 1 ≤ 1 = omega arith in rw i one
-      by (single kind) i = absurd (true≢false (sym e ∙ ap is_composite i))
-      by of_chars i = absurd (true≢false (sym e ∙ ap is_composite i))
-      by of_elements i = absurd (true≢false (sym e ∙ ap is_composite i))
-      by (of_instance holds) i = absurd (true≢false (sym e ∙ ap is_composite i))
+  -- a variable of a type with parts takes a literal, where it does not begin as zero
+  counted_by : (texts : List (List ℕ)) (bytes : List ℕ) (s : Shape) → Every (IsNumbered m.low texts) (first_literals s bytes) → is_composite s ≡ true → are_zeros bytes ≡ false → IsNumbered m.low texts bytes
+  counted_by texts bytes composite there whole some = (subst (λ z. Every (IsNumbered m.low texts) (if z then [] else bytes ∷ [])) some there).0
+  counted_by texts bytes (single kind) there whole some = absurd (true≢false (sym whole))
+  counted_by texts bytes of_chars there whole some = absurd (true≢false (sym whole))
+  counted_by texts bytes of_elements there whole some = absurd (true≢false (sym whole))
+  counted_by texts bytes (of_instance holds) there whole some = absurd (true≢false (sym whole))
 
-  begun_fine : (id : ℕ) (v : LocalId) → (is_composite (shape_of core (type_of_local core r v.0)) ≡ false → FitsSigned w32 (first_number (first_at core r v.0))) → id + length (action_literals core r (BeginWith v)) ≤ m.low.counts.literals → CanBegin m core (frame_of core r routine) v → AreFine m (begun_code core (frame_of core r routine) id v)
+  counted : (texts : List (List ℕ)) (v : LocalId) → Every (IsNumbered m.low texts) (action_literals core r (BeginWith v)) → is_composite (shape_of core (type_of_local core r v.0)) ≡ true → are_zeros (first_bytes core (type_of_local core r v.0) (first_at core r v.0)) ≡ false → IsNumbered m.low texts (first_bytes core (type_of_local core r v.0) (first_at core r v.0))
+  counted texts v there whole some =
+      let bytes = first_bytes core (type_of_local core r v.0) (first_at core r v.0) in
+      counted_by texts bytes (shape_of core (type_of_local core r v.0)) there whole some
+
+  begun_fine : (texts : List (List ℕ)) (v : LocalId) → (is_composite (shape_of core (type_of_local core r v.0)) ≡ false → FitsSigned w32 (first_number (first_at core r v.0))) → Every (IsNumbered m.low texts) (action_literals core r (BeginWith v)) → CanBegin m core (frame_of core r routine) v → AreFine m (begun_code core (frame_of core r routine) texts v)
   unfolding begun_by
-  begun_fine id v fits there can =
-      begun_by_shape (is_composite (shape_of core (type_of_local core r v.0))) id v (type_of_local core r v.0) (row_of core (frame_of core r routine) v) (λ e. subst (λ f. FitsSigned w32 (first_number f)) (first_is v) (fits e)) (λ e. omega (arith, there, counted v e)) can.one can.spare can.another
+  begun_fine texts v fits there can =
+      begun_by_shape (is_composite (shape_of core (type_of_local core r v.0))) texts v (type_of_local core r v.0) (row_of core (frame_of core r routine) v) (λ e. subst (λ f. FitsSigned w32 (first_number f)) (first_is v) (fits e))
+      (λ e. subst (λ f. are_zeros (first_bytes core (type_of_local core r v.0) f) ≡ false → IsNumbered m.low texts (first_bytes core (type_of_local core r v.0) f)) (first_is v) (counted texts v there e)) can.one can.spare can.another
 
   writing_fine : (w : Writing) → in_writing w ≤ n → (frame_of core r routine).bank.scratch + 1 ≤ m.registers → AreFine m (writing_code (frame_of core r routine) w)
   unfolding in_writing
@@ -204,18 +220,18 @@ module _ (m : Bounds) (core : Core) (r : ℕ) (routine : Routine) (n blocks : �
   writing_room (Truth a w) = refl
   writing_room (Char a w) = refl
 
-  action_fine : (id : ℕ) (a : Action) → IsNamedAction core (view_action core r a) → in_action a ≤ n → (frame_of core r routine).bank.scratch + action_room (view_action core r a) ≤ m.registers → id + length (action_literals core r a) ≤ m.low.counts.literals → CanDo m core (frame_of core r routine) (Act a None) → AreFine m (action_code core (frame_of core r routine) id a)
+  action_fine : (texts : List (List ℕ)) (a : Action) → IsNamedAction core (view_action core r a) → in_action a ≤ n → (frame_of core r routine).bank.scratch + action_room (view_action core r a) ≤ m.registers → Every (IsNumbered m.low texts) (action_literals core r a) → CanDo m core (frame_of core r routine) (Act a None) → AreFine m (action_code core (frame_of core r routine) texts a)
   unfolding in_action
-  action_fine id (Constant to k) named t room there can = constant_fine m _ k named (register_below m core (frame_of core r routine) n is temporaries runtime to t)
-  action_fine id (Load to kind from) named t room there can = load_fine m core (frame_of core r routine) n is temporaries runtime kind from (scratch_of (frame_of core r routine).bank 0) named (omega (arith, t)) (omega (arith, room)) _ (register_below m core (frame_of core r routine) n is temporaries runtime to (omega (arith, t)))
-  action_fine id (Store to kind from) named t room there can = store_fine m core (frame_of core r routine) n is temporaries runtime kind to (scratch_of (frame_of core r routine).bank 0) named (omega (arith, t)) (omega (arith, room)) _ (register_below m core (frame_of core r routine) n is temporaries runtime from (omega (arith, t)))
-  action_fine id (Copy of to from) named t room there can = copy_fine m core (frame_of core r routine) n is temporaries runtime of to from named.0 named.1 (omega (arith, t)) (omega (arith, t)) (omega (arith, room))
-  action_fine id (Look at) named t room there can = joined m _ _ (path_fine m core (frame_of core r routine) n is temporaries runtime near at (scratch_of (frame_of core r routine).bank 0) named t (omega (arith, room))) ((omega (arith, room), omega arith), tt)
-  action_fine id (BeginWith v) named t room there can = begun_fine id v named there can
-  action_fine id (Pick to text index) named t room there can = pick_fine m core (frame_of core r routine) n is temporaries runtime id _ (length text) _ (omega (arith, there)) named (register_below m core (frame_of core r routine) n is temporaries runtime to (omega (arith, t))) (register_below m core (frame_of core r routine) n is temporaries runtime index (omega (arith, t))) room
-  action_fine id (Compute c) named t room there can = computation_fine m core (frame_of core r routine) n is temporaries runtime r c named t (subst (λ k. (frame_of core r routine).bank.scratch + k ≤ m.registers) (computation_room c) room)
-  action_fine id (Write w) named t room there can = writing_fine w t (subst (λ k. (frame_of core r routine).bank.scratch + k ≤ m.registers) (writing_room w) room)
-  action_fine id (WriteText text width) named t room there can = text_fine m core (frame_of core r routine) n is temporaries runtime id (length text) _ (omega (arith, there)) named (register_below m core (frame_of core r routine) n is temporaries runtime width t) room
+  action_fine texts (Constant to k) named t room there can = constant_fine m _ k named (register_below m core (frame_of core r routine) n is temporaries runtime to t)
+  action_fine texts (Load to kind from) named t room there can = load_fine m core (frame_of core r routine) n is temporaries runtime kind from (scratch_of (frame_of core r routine).bank 0) named (omega (arith, t)) (omega (arith, room)) _ (register_below m core (frame_of core r routine) n is temporaries runtime to (omega (arith, t)))
+  action_fine texts (Store to kind from) named t room there can = store_fine m core (frame_of core r routine) n is temporaries runtime kind to (scratch_of (frame_of core r routine).bank 0) named (omega (arith, t)) (omega (arith, room)) _ (register_below m core (frame_of core r routine) n is temporaries runtime from (omega (arith, t)))
+  action_fine texts (Copy of to from) named t room there can = copy_fine m core (frame_of core r routine) n is temporaries runtime of to from named.0 named.1 (omega (arith, t)) (omega (arith, t)) (omega (arith, room))
+  action_fine texts (Look at) named t room there can = joined m _ _ (path_fine m core (frame_of core r routine) n is temporaries runtime near at (scratch_of (frame_of core r routine).bank 0) named t (omega (arith, room))) ((omega (arith, room), omega arith), tt)
+  action_fine texts (BeginWith v) named t room there can = begun_fine texts v named there can
+  action_fine texts (Pick to text index) named t room there can = pick_fine m core (frame_of core r routine) n is temporaries runtime (number_of texts text) _ (length text) _ there.0 named (register_below m core (frame_of core r routine) n is temporaries runtime to (omega (arith, t))) (register_below m core (frame_of core r routine) n is temporaries runtime index (omega (arith, t))) room
+  action_fine texts (Compute c) named t room there can = computation_fine m core (frame_of core r routine) n is temporaries runtime r c named t (subst (λ k. (frame_of core r routine).bank.scratch + k ≤ m.registers) (computation_room c) room)
+  action_fine texts (Write w) named t room there can = writing_fine w t (subst (λ k. (frame_of core r routine).bank.scratch + k ≤ m.registers) (writing_room w) room)
+  action_fine texts (WriteText text width) named t room there can = text_fine m core (frame_of core r routine) n is temporaries runtime (number_of texts text) (length text) _ there.0 named (register_below m core (frame_of core r routine) n is temporaries runtime width t) room
 
   -- the arms of a switch
   labels_words : (ls : List Label) → Every IsNamedLabel ls → Every HasWord ls
@@ -227,9 +243,9 @@ module _ (m : Bounds) (core : Core) (r : ℕ) (routine : Routine) (n blocks : �
   arms_words (a ∷ others) h = ((omega (arith, h.0.0, fewer), labels_words a.labels h.0.1), arms_words others h.1)
 
   -- an instruction that has what it asks of the program and of the frame
-  pub instruction_fine : (mir : Mir) (id : ℕ) (i : Instruction) → IsNamed core blocks (view_instruction core r i) → in_instruction i ≤ n → (frame_of core r routine).bank.scratch + room_in (view_instruction core r i) ≤ m.registers → id + literals_in core r i ≤ m.low.counts.literals → CanDo m core (frame_of core r routine) i → AreFine m (instruction_code core mir (frame_of core r routine) id i)
+  pub instruction_fine : (mir : Mir) (texts : List (List ℕ)) (i : Instruction) → IsNamed core blocks (view_instruction core r i) → in_instruction i ≤ n → (frame_of core r routine).bank.scratch + room_in (view_instruction core r i) ≤ m.registers → Every (IsNumbered m.low texts) (instruction_literals core r i) → CanDo m core (frame_of core r routine) i → AreFine m (instruction_code core mir (frame_of core r routine) texts i)
   unfolding in_instruction
-  instruction_fine mir id (Act a landing) named t room there can = action_fine id a named t room there (can_act a landing can)
+  instruction_fine mir texts (Act a landing) named t room there can = action_fine texts a named t room there (can_act a landing can)
     where
       can_act : (a : Action) (landing : Option ManagedBlock) → CanDo m core (frame_of core r routine) (Act a landing) → CanDo m core (frame_of core r routine) (Act a None)
       can_act (BeginWith v) landing c = c
@@ -242,12 +258,12 @@ module _ (m : Bounds) (core : Core) (r : ℕ) (routine : Routine) (n blocks : �
       can_act (Compute c') landing c = tt
       can_act (Write w) landing c = tt
       can_act (WriteText text width) landing c = tt
-  instruction_fine mir id (Call f operands) named t room there can = call_fine m core (frame_of core r routine) n is temporaries runtime mir f.0 operands named.2 named.3 t room can
-  instruction_fine mir id (Jump block) named t room there can = (omega (arith, named, fewer), tt)
-  instruction_fine mir id (When t block) named c room there can = true_fine m _ (the_work m core (frame_of core r routine) n is temporaries runtime room) _ (register_below m core (frame_of core r routine) n is temporaries runtime t c) block (omega (arith, named, fewer))
-  instruction_fine mir id (Unless t block) named c room there can = false_fine m _ (the_work m core (frame_of core r routine) n is temporaries runtime room) _ (register_below m core (frame_of core r routine) n is temporaries runtime t c) block (omega (arith, named, fewer))
-  instruction_fine mir id (Switch t arms) named c room there can = switch_fine m _ (the_work m core (frame_of core r routine) n is temporaries runtime room) _ (register_below m core (frame_of core r routine) n is temporaries runtime t c) arms (arms_words arms named)
-  instruction_fine mir id (Dispatch t block) named c room there can = dispatch_fine m _ (the_work m core (frame_of core r routine) n is temporaries runtime room) _ (register_below m core (frame_of core r routine) n is temporaries runtime t (omega (arith, c))) block (omega (arith, named, fewer))
-  instruction_fine mir id (MakeDue f) named t room there can = due_fine m core (frame_of core r routine) n is temporaries runtime (omega (arith, room))
-  instruction_fine mir id (Stop t) named c room there can = stop_fine m core (frame_of core r routine) n is temporaries runtime _ (register_below m core (frame_of core r routine) n is temporaries runtime t c) can
-  instruction_fine mir id Return named t room there can = return_fine m core (frame_of core r routine) n is temporaries runtime (frame_of core r routine).returning can
+  instruction_fine mir texts (Call f operands) named t room there can = call_fine m core (frame_of core r routine) n is temporaries runtime mir f.0 operands named.2 named.3 t room can
+  instruction_fine mir texts (Jump block) named t room there can = (omega (arith, named, fewer), tt)
+  instruction_fine mir texts (When t block) named c room there can = true_fine m _ (the_work m core (frame_of core r routine) n is temporaries runtime room) _ (register_below m core (frame_of core r routine) n is temporaries runtime t c) block (omega (arith, named, fewer))
+  instruction_fine mir texts (Unless t block) named c room there can = false_fine m _ (the_work m core (frame_of core r routine) n is temporaries runtime room) _ (register_below m core (frame_of core r routine) n is temporaries runtime t c) block (omega (arith, named, fewer))
+  instruction_fine mir texts (Switch t arms) named c room there can = switch_fine m _ (the_work m core (frame_of core r routine) n is temporaries runtime room) _ (register_below m core (frame_of core r routine) n is temporaries runtime t c) arms (arms_words arms named)
+  instruction_fine mir texts (Dispatch t block) named c room there can = dispatch_fine m _ (the_work m core (frame_of core r routine) n is temporaries runtime room) _ (register_below m core (frame_of core r routine) n is temporaries runtime t (omega (arith, c))) block (omega (arith, named, fewer))
+  instruction_fine mir texts (MakeDue f) named t room there can = due_fine m core (frame_of core r routine) n is temporaries runtime (omega (arith, room))
+  instruction_fine mir texts (Stop t) named c room there can = stop_fine m core (frame_of core r routine) n is temporaries runtime _ (register_below m core (frame_of core r routine) n is temporaries runtime t c) can
+  instruction_fine mir texts Return named t room there can = return_fine m core (frame_of core r routine) n is temporaries runtime (frame_of core r routine).returning can

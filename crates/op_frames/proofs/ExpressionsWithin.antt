@@ -1,5 +1,6 @@
 -- The items of an expression name no more temporaries, and their code takes no more scratch registers, than twice its nodes.
-use Rattle.std.proofs.Common.{◌≡◌, ◌<◌, ◌≤◌, ℕ, zero, suc, ℤ, pos, negsuc, ◌+◌, ◌*◌, Bool, true, false, not, List, [], ◌∷◌, ◌++◌, length, Option, Some, None, slice_get, refl, sym, ap, ◌∙◌, subst, arith, length-append, if◌then◌else◌}
+use Rattle.std.proofs.Common.{◌≡◌, ◌<◌, ◌≤◌, ℕ, zero, suc, ℤ, pos, negsuc, ◌+◌, ◌*◌, Bool, true, false, not, List, [], ◌∷◌, ◌++◌, length, Option, Some, None, slice_get, refl, sym, ap, ◌∙◌, subst, arith, if◌then◌else◌}
+use Rattle.std.proofs.lemmas.List.{length_push}
 use Rattle.op_core.specs.Expression.{Expression, expression, Root as Start, constant as fixed, variable, object, call, construct as constructed, set as bracketed, eof, eoln, Steps, no_steps, steps, Action as Doing, convert, bracket, field, index, method, prefixed, operate, is, apply, copy as copied, Elements, no_elements, elements, Element as Member, one, range, Arguments, no_arguments, arguments, Argument, value, place, array, listed}
 use Rattle.op_core.specs.Sizes.{type_at}
 use Rattle.op_core.specs.Typing.{type_of, type_after}
@@ -65,16 +66,13 @@ steps_element top [] of low high t less p = (less, tt)
 steps_element top (part_field o j ∷ ss) of low high t less p = steps_element top ss of low high t less p
 steps_element top (part_element o l h u ∷ ss) of low high t less p = (p.0, steps_element top ss of low high t less p.1)
 
-one_more : {A : Type 0} (xs : List A) (x : A) → length (xs ++ x ∷ []) ≡ length xs + 1
-one_more xs x = length-append xs (x ∷ [])
-
 -- ---- nodes
 
-valued_node : (core : Core) (of : TypeId) → nodes_of (valued core of) ≡ 1
+pub valued_node : (core : Core) (of : TypeId) → nodes_of (valued core of) ≡ 1
 unfolding valued
 valued_node core of = refl
 
-listed_node : (core : Core) (of : TypeId) (n : ℕ) → nodes_of (listed_values core of n) ≡ 1
+pub listed_node : (core : Core) (of : TypeId) (n : ℕ) → nodes_of (listed_values core of n) ≡ 1
 unfolding listed_values
 listed_node core of n = refl
 
@@ -219,7 +217,7 @@ module _ (blocks top room : ℕ) where
   field_well here of k n f w =
       let some : 1 ≤ n = omega (arith, w.used) in
       let p = path_short of here (here.temp + f.used) n f.now some w.now in
-      let longer = one_more (path_of of here f.now).steps (part_field of k) in
+      let longer = length_push (path_of of here f.now).steps (part_field of k) in
       record {
         items = w.items;
         used = omega (arith, w.used);
@@ -230,7 +228,7 @@ module _ (blocks top room : ℕ) where
   element_well core here of n f i w made =
       let some : 1 ≤ n = omega (arith, w.used) in
       let p = path_short of here (here.temp + f.used) n f.now some w.now in
-      let longer = one_more (path_of of here f.now).steps (element_step core of (here.temp + f.used)) in
+      let longer = length_push (path_of of here f.now).steps (element_step core of (here.temp + f.used)) in
       record {
         items = made_both (IsWithin top room) blocks f.items i w.items made;
         used = omega (arith, w.used);

@@ -1,7 +1,7 @@
 -- Low code whose instructions have their operands in range.
-use Rattle.std.proofs.Common.{◌≡◌, ◌<◌, ◌≤◌, ℕ, ℤ, pos, negsuc, ◌+◌, ◌-◌, ◌^◌, ◌-ℤ◌, max, Bool, true, false, ◌&&◌, List, [], ◌∷◌, ◌++◌, length, Option, Some, None, nat_eq, nat_lt, slice_get, fold, refl, sym, ap, ap₂, ◌∙◌, subst, arith, if◌then◌else◌, unsigned_abs, FitsSigned}
+use Rattle.std.proofs.Common.{◌≡◌, ◌<◌, ◌≤◌, ℕ, ℤ, pos, negsuc, ◌+◌, ◌-◌, ◌^◌, ◌-ℤ◌, max, true, false, ◌&&◌, List, [], ◌∷◌, ◌++◌, length, Option, Some, None, nat_eq, nat_lt, slice_get, fold, refl, sym, ap, ap₂, ◌∙◌, subst, arith, if◌then◌else◌, unsigned_abs, FitsSigned}
 use Rattle.std.proofs.Math.Nat.{le-max_left, le-max_right}
-use Rattle.std.proofs.lemmas.Bool.Decides.{nat_tests}
+use Rattle.std.proofs.lemmas.Bool.{and_from, lt-ltb}
 use Rattle.op_expand.specs.Registers.{greatest, greatest_in, greatest_in_call, with_register}
 use Rattle.std.specs.List.{list_all}
 use Rattle.op_frames.specs.Made.{Every}
@@ -83,57 +83,51 @@ greatest_below m (Exit status) some f = omega (arith, f)
 -- ---- valid instructions of a routine that has the registers that it names
 
 module _ (m : Bounds) (routine : Routine) (blocks : length routine.blocks ≡ m.blocks) (locals : routine.locals ≡ m.locals) where
-  lt_true : (a b : ℕ) → a < b → nat_lt a b ≡ true
-  lt_true a b p = grind (arith, nat_tests)
-
-  and_true : (a b : Bool) → a ≡ true → b ≡ true → (a && b) ≡ true
-  and_true a b p q = cc
-
   has_it : (r : VirtualRegister) → r.0 < routine.registers → has routine r ≡ true
-  has_it r p = lt_true r.0 routine.registers p
+  has_it r p = lt-ltb r.0 routine.registers p
 
   goes : (block : BlockId) → Leads m block → has_block routine block ≡ true
-  goes block p = lt_true block.0 (length routine.blocks) (omega (arith, blocks))
+  goes block p = lt-ltb block.0 (length routine.blocks) (omega (arith, blocks))
 
   arguments_there : (so_far : ℕ) (rs : List VirtualRegister) → fold with_register so_far rs < routine.registers → (so_far < routine.registers) × (list_all (has routine) rs ≡ true)
   arguments_there so_far [] p = (p, refl)
   arguments_there so_far (r ∷ rs) p =
       let rest = arguments_there (max so_far r.0) rs p in
       let here : r.0 < routine.registers = omega (arith, rest.0, le-max_right so_far r.0) in
-      (omega (arith, rest.0, le-max_left so_far r.0), and_true _ _ (has_it r here) rest.1)
+      (omega (arith, rest.0, le-max_left so_far r.0), and_from _ _ (has_it r here) rest.1)
 
   two_there : (a b : VirtualRegister) → max a.0 b.0 < routine.registers → (has routine a && has routine b) ≡ true
-  two_there a b p = and_true _ _ (has_it a (omega arith)) (has_it b (omega arith))
+  two_there a b p = and_from _ _ (has_it a (omega arith)) (has_it b (omega arith))
 
   three_there : (a b c : VirtualRegister) → max a.0 (max b.0 c.0) < routine.registers → ((has routine a && has routine b) && has routine c) ≡ true
-  three_there a b c p = and_true _ _ (and_true _ _ (has_it a (omega arith)) (has_it b (omega arith))) (has_it c (omega arith))
+  three_there a b c p = and_from _ _ (and_from _ _ (has_it a (omega arith)) (has_it b (omega arith))) (has_it c (omega arith))
 
   same_there : (a : VirtualRegister) → max a.0 (max a.0 a.0) < routine.registers → has routine a ≡ true
   same_there a p = has_it a (omega arith)
 
   two_of : (a b : VirtualRegister) → max a.0 (max b.0 b.0) < routine.registers → (has routine a && has routine b) ≡ true
-  two_of a b p = and_true _ _ (has_it a (omega arith)) (has_it b (omega arith))
+  two_of a b p = and_from _ _ (has_it a (omega arith)) (has_it b (omega arith))
 
   pub valid_instruction : (i : Instruction) → greatest_in i < routine.registers → IsFine m i → is_valid_instruction m.low routine i ≡ true
   unfolding is_valid_instruction const_fits address_fits local_fits imm_fits shift_fits branch_fits operands_fit call_fits has_all
-  valid_instruction (Const to n) g f = and_true _ _ (same_there to g) (lt_true n (2 ^ 32) f.1)
-  valid_instruction (Address to symbol) g f = and_true _ _ (same_there to g) f.1
-  valid_instruction (Local to offset) g f = and_true _ _ (same_there to g) (lt_true offset routine.locals (omega (arith, locals, f.1)))
+  valid_instruction (Const to n) g f = and_from _ _ (same_there to g) (lt-ltb n (2 ^ 32) f.1)
+  valid_instruction (Address to symbol) g f = and_from _ _ (same_there to g) f.1
+  valid_instruction (Local to offset) g f = and_from _ _ (same_there to g) (lt-ltb offset routine.locals (omega (arith, locals, f.1)))
   valid_instruction (Move to from) g f = two_of to from g
   valid_instruction (Alu op to left right) g f = three_there to left right g
-  valid_instruction (AluImm op to left imm) g f = and_true _ _ (two_of to left g) f.2
-  valid_instruction (Shift op to left amount) g f = and_true _ _ (two_of to left g) f.2
-  valid_instruction (Load op to base offset) g f = and_true _ _ (two_of to base g) f.2
-  valid_instruction (Store op value base offset) g f = and_true _ _ (two_of value base g) f.2
+  valid_instruction (AluImm op to left imm) g f = and_from _ _ (two_of to left g) f.2
+  valid_instruction (Shift op to left amount) g f = and_from _ _ (two_of to left g) f.2
+  valid_instruction (Load op to base offset) g f = and_from _ _ (two_of to base g) f.2
+  valid_instruction (Store op value base offset) g f = and_from _ _ (two_of value base g) f.2
   valid_instruction (Call id operands) g f =
       let r = arguments_there (max operands.to.0 operands.to.0) operands.arguments g in
       let to : operands.to.0 < routine.registers = omega (arith, r.0) in
-      and_true _ _ f.2 (and_true _ _ (and_true _ _ r.1 (has_it operands.to to)) (ap (λ l. has_landing routine l) f.3))
+      and_from _ _ f.2 (and_from _ _ (and_from _ _ r.1 (has_it operands.to to)) (ap (λ l. has_landing routine l) f.3))
   valid_instruction (CallAt address operands) g f = absurd f
-  valid_instruction (Branch op left right block) g f = and_true _ _ (two_of left right g) (goes block f.2)
+  valid_instruction (Branch op left right block) g f = and_from _ _ (two_of left right g) (goes block f.2)
   valid_instruction (Jump block) g f = goes block f
   valid_instruction (Return value) g f = same_there value g
   valid_instruction Raise g f = absurd f
   valid_instruction (Read to buffer size) g f = absurd f
-  valid_instruction (Write output buffer size) g f = and_true _ _ (has_it buffer (omega arith)) (has_it size (omega arith))
+  valid_instruction (Write output buffer size) g f = and_from _ _ (has_it buffer (omega arith)) (has_it size (omega arith))
   valid_instruction (Exit status) g f = same_there status g

@@ -1,6 +1,6 @@
 -- The registers and the locals of a frame, and the code with which a routine begins.
-use Rattle.std.proofs.Common.{◌≡◌, ◌<◌, ◌≤◌, ◌⊎◌, ℕ, zero, suc, pos, ◌+◌, ◌*◌, ◌/◌, ◌%◌, max, min, Bool, true, false, ◌||◌, List, [], ◌∷◌, ◌++◌, length, map, take, nat_eq, nat_le, nat_lt, slice_get, Option, Some, None, refl, sym, ap, ◌∙◌, subst, arith, inl, inr, true≢false, length-take, if◌then◌else◌}
-use Rattle.std.proofs.lemmas.Bool.Decides.{nat_tests}
+use Rattle.std.proofs.Common.{◌≡◌, ◌<◌, ◌≤◌, ◌⊎◌, ℕ, zero, suc, pos, ◌+◌, ◌%◌, max, Bool, true, false, ◌||◌, List, [], ◌∷◌, ◌++◌, length, map, take, nat_eq, nat_le, nat_lt, slice_get, Option, Some, None, refl, sym, ap, ◌∙◌, subst, arith, inl, inr, true≢false, length-take, if◌then◌else◌}
+use Rattle.std.proofs.lemmas.Bool.{lt-ltb, ltb-true}
 use Rattle.std.specs.List.{list_any}
 use Rattle.op_compute.specs.Bank.{scratch_of}
 use Rattle.op_compute.specs.declared.bank.Bank.{Bank}
@@ -10,9 +10,10 @@ use Rattle.op_core.specs.Rows.{rows}
 use Rattle.op_core.specs.declared.ids.TypeId.{TypeId}
 use Rattle.op_core.specs.declared.program.Core.{Core}
 use Rattle.op_core.specs.declared.routine.Variable.{Variable}
+use Rattle.op_expand.proofs.RoomLemmas.{behind_grows, room_whole, rounded_whole, sum_whole}
 use Rattle.op_expand.specs.Calls.{left}
 use Rattle.op_expand.specs.Frames.{frame_of, first_room, parameters_of, returning_of, spare_from, spare_of, variables_room}
-use Rattle.op_expand.specs.Homes.{end_of, home_at, home_by, homes_from, is_one_root, keeping_of, parameter, room_behind, room_by, roots_of, rounded, size_of_root}
+use Rattle.op_expand.specs.Homes.{end_of, home_at, home_by, homes_from, is_one_root, keeping_of, parameter, room_behind, room_by, roots_of, size_of_root}
 use Rattle.op_expand.specs.Moves.{store_code, taken_code}
 use Rattle.op_expand.specs.Routines.{all_received, beginning, begun_with_stack, received, received_number}
 use Rattle.op_expand.specs.declared.frame.Frame.{Frame}
@@ -41,12 +42,6 @@ use Rattle.op_rt_text.specs.Names.{register}
 
 -- ---- variables in registers
 
-lt_tells : (a b : ℕ) → nat_lt a b ≡ true → a < b
-lt_tells a b e = grind (arith, nat_tests)
-
-lt_true : (a b : ℕ) → a < b → nat_lt a b ≡ true
-lt_true a b p = grind (arith, nat_tests)
-
 given_by : (reference memory parameter : Bool) → (if reference then AsGiven else if memory then InMemory else if parameter then AsGiven else InRegister) ≡ AsGiven → (reference ≡ true) ⊎ (parameter ≡ true)
 given_by true memory parameter e = inl refl
 given_by false true parameter e = absurd cc
@@ -56,18 +51,6 @@ given_by false false false e = absurd cc
 -- what is kept as it was given is a reference or a parameter
 given_is : (core : Core) (parameters : ℕ) (roots : List Root) (k : ℕ) (v : Variable) → keeping_of core parameters roots k v ≡ AsGiven → (is_reference v.role ≡ true) ⊎ (nat_lt k parameters ≡ true)
 given_is core parameters roots k v e = given_by (is_reference v.role) (is_composite (shape_of core v.of) || list_any (is_one_root (Local (record { 0 = k }))) roots) (nat_lt k parameters) e
-
-room_grows : (keeping : Keeping) (size : ℕ) (room : Room) → room.register ≤ (room_by keeping size room).register
-room_grows AsGiven size room = omega arith
-room_grows InRegister size room = omega arith
-room_grows InMemory size room = omega arith
-
-pub behind_grows : (core : Core) (parameters : ℕ) (roots : List Root) (k : ℕ) (room : Room) (vs : List Variable) → room.register ≤ (room_behind core parameters roots k room vs).register
-behind_grows core parameters roots k room [] = omega arith
-behind_grows core parameters roots k room (v ∷ vs) =
-    let here = room_grows (keeping_of core parameters roots k v) (size_in core v.of) room in
-    let rest = behind_grows core parameters roots (k + 1) (room_by (keeping_of core parameters roots k v) (size_in core v.of) room) vs in
-    omega (arith, here, rest)
 
 module _ (m : Bounds) (core : Core) (parameters : ℕ) (roots : List Root) (few : 2 + parameters ≤ m.registers) where
   -- references stand among the parameters
@@ -84,7 +67,7 @@ module _ (m : Bounds) (core : Core) (parameters : ℕ) (roots : List Root) (few 
     where
       by : (is_reference v.role ≡ true) ⊎ (nat_lt k parameters ≡ true) → k < parameters
       by (inl i) = h i
-      by (inr i) = lt_tells k parameters i
+      by (inr i) = ltb-true k parameters i
 
   pub homes_below : (k : ℕ) (room : Room) (vs : List Variable) → AreGiven k vs → (room_behind core parameters roots k room vs).register ≤ m.registers → (j : ℕ) → IsHome m (home_at (homes_from core parameters roots k room vs) (record { 0 = j }))
   homes_below k room [] given less j = tt
@@ -126,20 +109,6 @@ pub taken_few : {A : Type 0} (n : ℕ) (xs : List A) → 0 + length (take n xs) 
 taken_few n xs = let e = length-take n xs in omega (arith, e)
 
 -- ---- locals take whole words
-
-rounded_whole : (n : ℕ) → rounded n % 4 ≡ 0
-rounded_whole n = whole (n / 4 + min 1 (n % 4))
-  where
-    whole : (k : ℕ) → k * 4 % 4 ≡ 0
-    whole k = omega arith
-
-sum_whole : (a b : ℕ) → a % 4 ≡ 0 → b % 4 ≡ 0 → (a + b) % 4 ≡ 0
-sum_whole a b p q = omega arith
-
-room_whole : (keeping : Keeping) (size : ℕ) (room : Room) → room.offset % 4 ≡ 0 → (room_by keeping size room).offset % 4 ≡ 0
-room_whole AsGiven size room p = p
-room_whole InRegister size room p = p
-room_whole InMemory size room p = sum_whole room.offset (rounded size) p (rounded_whole size)
 
 behind_whole : (core : Core) (parameters : ℕ) (roots : List Root) (k : ℕ) (room : Room) (vs : List Variable) → room.offset % 4 ≡ 0 → (room_behind core parameters roots k room vs).offset % 4 ≡ 0
 behind_whole core parameters roots k room [] p = p
@@ -200,7 +169,7 @@ module _ (m : Bounds) (core : Core) (r : ℕ) (routine : Routine) (n : ℕ) (is 
   unfolding has_symbol
   stack_there =
       let zero : 0 < m.registers = omega (arith, is.two) in
-      ((zero, lt_true (length core.variables) (length m.low.globals) is.globals), ((zero, zero, refl), tt))
+      ((zero, lt-ltb (length core.variables) (length m.low.globals) is.globals), ((zero, zero, refl), tt))
 
   pub beginning_fine : AreFine m (beginning core (frame_of core r routine) r)
   beginning_fine = begun m core r (frame_of core r routine) stack_there (all_fine 0 (take (parameters_of core r) (rows core.variables (variables_of core r))) (taken_few (parameters_of core r) (rows core.variables (variables_of core r))))

@@ -59,12 +59,12 @@ value_bytes : (open_ : Bool) (n : ℕ) → (open_ ≡ true → n ≤ 12) → rou
 value_bytes true n p = three_words n (p refl)
 value_bytes false n p = let e = rounded_is n in omega (arith, e)
 
-kept_by : (reference whole named parameter : Bool) → (if reference then AsGiven else if whole || named then InMemory else if parameter then AsGiven else InRegister) ≡ InMemory → reference ≡ false
+pub kept_by : (reference whole named parameter : Bool) → (if reference then AsGiven else if whole || named then InMemory else if parameter then AsGiven else InRegister) ≡ InMemory → reference ≡ false
 kept_by true whole named parameter e = absurd cc
 kept_by false whole named parameter e = refl
 
 module _ (core : Core) (opens : (of : TypeId) → is_open (type_at core of) ≡ true → size_in core of ≤ 12) where
-  memory_words : (v : Variable) (role : Role) → IsCharged role → is_reference role ≡ false → (role ≡ Object → size_in core v.of ≤ 4) → rounded (size_in core v.of) ≤ 4 * variable_words core v role
+  pub memory_words : (v : Variable) (role : Role) → IsCharged role → is_reference role ≡ false → (role ≡ Object → size_in core v.of ≤ 4) → rounded (size_in core v.of) ≤ 4 * variable_words core v role
   memory_words v Object c r o = let p = o refl in one_word (size_in core v.of) p
     where
       one_word : (n : ℕ) → n ≤ 4 → rounded n ≤ 4 * 1
@@ -103,7 +103,7 @@ module _ (core : Core) (opens : (of : TypeId) → is_open (type_at core of) ≡ 
 
     -- ---- the first parameter: it is stored, or has words that it does not take
 
-    first_kept : (reference whole named parameter : Bool) → parameter ≡ true
+    pub first_kept : (reference whole named parameter : Bool) → parameter ≡ true
         → ((if reference then AsGiven else if whole || named then InMemory else if parameter then AsGiven else InRegister) ≡ InMemory)
         ⊎ (((if reference then AsGiven else if whole || named then InMemory else if parameter then AsGiven else InRegister) ≡ AsGiven) × ((reference ≡ true) ⊎ (whole ≡ false)))
     first_kept true whole named parameter e = inr (refl, inl refl)
@@ -116,7 +116,7 @@ module _ (core : Core) (opens : (of : TypeId) → is_open (type_at core of) ≡ 
     place_words true = omega arith
     place_words false = omega arith
 
-    reference_words : (v : Variable) (role : Role) → is_reference role ≡ true → 1 ≤ variable_words core v role
+    pub reference_words : (v : Variable) (role : Role) → is_reference role ≡ true → 1 ≤ variable_words core v role
     reference_words v (Parameter Var) e = place_words (is_open (type_at core v.of))
     reference_words v (Parameter Out) e = place_words (is_open (type_at core v.of))
     reference_words v (Parameter Value) e = absurd cc
@@ -136,7 +136,7 @@ module _ (core : Core) (opens : (of : TypeId) → is_open (type_at core of) ≡ 
     given_room InMemory size room e = absurd cc
     given_room InRegister size room e = absurd cc
 
-    stored_first : (n : ℕ) → 1 ≤ n → (home : Home) (homes : List Home) → is_stored home ≡ true → list_any is_stored (take n (home ∷ homes)) ≡ true
+    pub stored_first : (n : ℕ) → 1 ≤ n → (home : Home) (homes : List Home) → is_stored home ≡ true → list_any is_stored (take n (home ∷ homes)) ≡ true
     stored_first zero some home homes e = absurd (omega (arith, some))
     stored_first (suc n) some home homes e = rw e refl
 
@@ -159,7 +159,7 @@ module _ (core : Core) (opens : (of : TypeId) → is_open (type_at core of) ≡ 
             let rest = room_charged 1 (room_by (keeping_of core parameters roots 0 v) (size_in core v.of) room) vs c.1 in
             inr (omega (arith, here, words, rest))
 
-end_is : (core : Core) (offset : ℕ) (roots : List Root) → end_of core offset roots ≡ offset + sum_by (size_of_root core) roots
+pub end_is : (core : Core) (offset : ℕ) (roots : List Root) → end_of core offset roots ≡ offset + sum_by (size_of_root core) roots
 end_is core offset [] = let e : offset ≡ offset + 0 = omega arith in e
 end_is core offset (r ∷ rs) =
     let a = end_is core (offset + size_of_root core r) rs in

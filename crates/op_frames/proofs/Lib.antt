@@ -6,12 +6,14 @@ pub mod ComputingFine
 pub mod ExpressionsWithin
 pub mod Fine
 pub mod FramesFine
+pub mod FramesNeeded
 pub mod FramesUnder
 pub mod GlobalsUnder
 pub mod LowFine
 pub mod Lowered
 pub mod MadeLemmas
 pub mod MovesFine
+pub mod NeedUnder
 pub mod PlacesFine
 pub mod ProgramFine
 pub mod RegistersUnder

@@ -1,14 +1,17 @@
 -- The low code of a program that fits may be built.
-use Rattle.std.proofs.Common.{◌≡◌, ◌<◌, ◌≤◌, ℕ, zero, suc, ◌+◌, Bool, true, false, ◌&&◌, List, [], ◌∷◌, ◌++◌, length, replicate, nat_eq, nat_le, nat_lt, slice_get, slice_set, fold, flat_map, Some, refl, sym, ap, ◌∙◌, subst, arith, le_refl, append_assoc, length-append, if◌then◌else◌}
-use Rattle.std.proofs.lemmas.Bool.{ne_eqb}
+use Rattle.std.proofs.Common.{◌≡◌, ◌<◌, ◌≤◌, ℕ, zero, suc, ◌+◌, Bool, true, false, List, [], ◌∷◌, ◌++◌, length, replicate, nat_eq, nat_le, nat_lt, slice_get, slice_set, fold, flat_map, Some, refl, sym, ap, ◌∙◌, subst, arith, le_refl, append_assoc, length-append, if◌then◌else◌, sum_by, codes}
+use Rattle.std.proofs.lemmas.Bool.{and_from, le-leb, ne_eqb}
 use Rattle.std.proofs.lemmas.Bool.Decides.{nat_tests}
 use Rattle.std.proofs.lemmas.List.{length-replicate, length-set}
 use Rattle.std.proofs.lemmas.List.Concat.{flat_map-cons}
 use Rattle.std.proofs.lemmas.List.Folds.{list_all-append}
 use Rattle.std.proofs.lemmas.List.Sums.{sum_by-append}
 use Rattle.std.specs.List.{list_all}
-use Rattle.op_constants.specs.Literals.{block_literals, instruction_literals, literals_in, literals_of, routine_literals, routines_literals}
-use Rattle.op_constants.specs.Fixed.{fixed_literals}
+use Rattle.std.proofs.lemmas.Option.{slice_get_within}
+use Rattle.op_base.proofs.Lists.{slice_get-behind, slice_get-front}
+use Rattle.op_constants.proofs.Distinct.{among_first, among_later, number_within, program_among, routines_among}
+use Rattle.op_constants.specs.Literals.{literals_of, routine_literals, routines_literals}
+use Rattle.op_constants.specs.Texts.{is_among}
 use Rattle.op_core.specs.declared.ids.RoutineId.{RoutineId}
 use Rattle.op_core.specs.declared.ids.VariableId.{VariableId}
 use Rattle.op_core.specs.declared.program.Core.{Core}
@@ -16,73 +19,56 @@ use Rattle.op_expand.specs.Calls.{has_closing, closing_number, finalizations}
 use Rattle.op_expand.specs.Closing.{closing_routine, closing_routines}
 use Rattle.op_expand.specs.Frames.{parameters_of}
 use Rattle.op_expand.specs.Homes.{parameter}
-use Rattle.op_expand.specs.Programs.{behind_routines, first_literal, global_of, globals_in, low_of, no_bytes, program_literal, routines_from, stack_global, with_global}
-use Rattle.op_expand.specs.Routines.{behind_blocks, behind_code, low_parameters, low_routine, most_charge}
+use Rattle.op_expand.specs.Programs.{global_of, globals_in, low_of, no_bytes, routines_from, stack_global, with_global}
+use Rattle.op_expand.specs.Routines.{low_parameters, low_routine, most_charge}
 use Rattle.op_frames.proofs.ClosingFine.{closing_registers, closing_valid}
+use Rattle.op_frames.proofs.CodeFine.{IsNumbered}
 use Rattle.op_frames.proofs.ProgramFine.{from_valid, low_valid}
-use Rattle.op_frames.proofs.RoutineFine.{blocks_grow}
 use Rattle.op_frames.specs.Fitting.{AreFitting, IsFitting, IsPart}
 use Rattle.op_frames.specs.Made.{Every}
 use Rattle.op_image.specs.Building.{is_buildable, is_laid_out}
 use Rattle.op_layout.specs.Places.{layout_of, places_from}
-use Rattle.op_link.specs.Memory.{constants_size, global_size, globals_size}
+use Rattle.op_link.proofs.GlobalPlaces.{size_most}
+use Rattle.op_link.specs.Memory.{constants_size, globals_size, variable_size}
 use Rattle.op_low.specs.Valid.{is_valid, is_valid_routine, takes}
 use Rattle.op_low.specs.declared.code.Routine.{Routine as LowRoutine}
-use Rattle.op_mir.specs.declared.code.Block.{Block}
+use Rattle.op_meaning.specs.Texts.{line_feed}
 use Rattle.op_mir.specs.declared.code.Mir.{Mir}
 use Rattle.op_mir.specs.declared.code.Routine.{Routine}
-use Rattle.op_mir.specs.declared.instruction.Instruction.{Instruction}
 use Rattle.op_rt_text.proofs.ValidRoutines.{valid_routines}
 use Rattle.op_rt_text.specs.Runtime.{runtime_routines}
 use Rattle.op_rv.specs.declared.objects.GlobalVariable.{GlobalVariable}
 
-and_true : (a b : Bool) → a ≡ true → b ≡ true → (a && b) ≡ true
-and_true a b p q = cc
-
 eq_true : (a b : ℕ) → a ≡ b → nat_eq a b ≡ true
 eq_true a b p = grind (arith, nat_tests)
 
-le_true : (a b : ℕ) → a ≤ b → nat_le a b ≡ true
-le_true a b p = grind (arith, nat_tests)
-
 -- ---- elements of joined lists
-
-slice_front : {A : Type 0} (a b : List A) (k : ℕ) → k < length a → slice_get (a ++ b) k ≡ slice_get a k
-slice_front [] b k less = absurd (omega arith)
-slice_front (x ∷ a) b zero less = refl
-slice_front (x ∷ a) b (suc k) less = let less' : suc k < suc (length a) = less in slice_front a b k (omega (arith, less'))
-
-slice_behind : {A : Type 0} (a b : List A) (k : ℕ) → slice_get (a ++ b) (length a + k) ≡ slice_get b k
-slice_behind [] b k = let e : 0 + k ≡ k = omega arith in ap (slice_get b) e
-slice_behind (x ∷ a) b k =
-    let e : suc (length a) + k ≡ suc (length a + k) = omega arith in
-    ap (slice_get (x ∷ a ++ b)) e ∙ slice_behind a b k
 
 -- ---- the parameters of routines
 
-parameters_by : (over : Bool) (core : Core) (mir : Mir) (r id : ℕ) (x : Routine) → nat_lt most_charge x.charge ≡ over → (low_routine core mir r id x).parameters ≡ low_parameters core r
-parameters_by true core mir r id x e = rw e refl
-parameters_by false core mir r id x e = rw e refl
+pub parameters_by : (over : Bool) (core : Core) (mir : Mir) (texts : List (List ℕ)) (r : ℕ) (x : Routine) → nat_lt most_charge x.charge ≡ over → (low_routine core mir texts r x).parameters ≡ low_parameters core r
+parameters_by true core mir texts r x e = rw e refl
+parameters_by false core mir texts r x e = rw e refl
 
-low_has : (core : Core) (mir : Mir) (r id : ℕ) (x : Routine) → (low_routine core mir r id x).parameters ≡ low_parameters core r
-low_has core mir r id x = parameters_by (nat_lt most_charge x.charge) core mir r id x refl
+low_has : (core : Core) (mir : Mir) (texts : List (List ℕ)) (r : ℕ) (x : Routine) → (low_routine core mir texts r x).parameters ≡ low_parameters core r
+low_has core mir texts r x = parameters_by (nat_lt most_charge x.charge) core mir texts r x refl
 
 -- the routine that is called
-from_at : (core : Core) (mir : Mir) (xs : List Routine) (r id k n : ℕ) → k < length xs → low_parameters core (r + k) ≡ n → takes (slice_get (routines_from core mir r id xs) k) n ≡ true
-from_at core mir [] r id k n less e = absurd (omega arith)
-from_at core mir (x ∷ xs) r id zero n less e =
+from_at : (core : Core) (mir : Mir) (texts : List (List ℕ)) (xs : List Routine) (r k n : ℕ) → k < length xs → low_parameters core (r + k) ≡ n → takes (slice_get (routines_from core mir texts r xs) k) n ≡ true
+from_at core mir texts [] r k n less e = absurd (omega arith)
+from_at core mir texts (x ∷ xs) r zero n less e =
     let here : r + 0 ≡ r = omega arith in
-    eq_true _ _ (low_has core mir r id x ∙ ap (low_parameters core) (sym here) ∙ e)
-from_at core mir (x ∷ xs) r id (suc k) n less e =
+    eq_true _ _ (low_has core mir texts r x ∙ ap (low_parameters core) (sym here) ∙ e)
+from_at core mir texts (x ∷ xs) r (suc k) n less e =
     let less' : suc k < suc (length xs) = less in
     let next : r + 1 + k ≡ r + suc k = omega arith in
-    from_at core mir xs (r + 1) (behind_blocks core r id x.blocks) k n (omega (arith, less')) (ap (low_parameters core) next ∙ e)
+    from_at core mir texts xs (r + 1) k n (omega (arith, less')) (ap (low_parameters core) next ∙ e)
 
-from_count : (core : Core) (mir : Mir) (xs : List Routine) (r id : ℕ) → length (routines_from core mir r id xs) ≡ length xs
-from_count core mir [] r id = refl
-from_count core mir (x ∷ xs) r id = ap suc (from_count core mir xs (r + 1) (behind_blocks core r id x.blocks))
+from_count : (core : Core) (mir : Mir) (texts : List (List ℕ)) (xs : List Routine) (r : ℕ) → length (routines_from core mir texts r xs) ≡ length xs
+from_count core mir texts [] r = refl
+from_count core mir texts (x ∷ xs) r = ap suc (from_count core mir texts xs (r + 1))
 
-own_parameters : (core : Core) (f k : ℕ) → f < length core.routines → k ≡ parameters_of core f → low_parameters core f ≡ suc (suc k)
+pub own_parameters : (core : Core) (f k : ℕ) → f < length core.routines → k ≡ parameters_of core f → low_parameters core f ≡ suc (suc k)
 own_parameters core f k less e =
     let other : nat_eq f (length core.routines) ≡ false = ne_eqb f (length core.routines) (λ x. omega arith) in
     let same : 2 + parameters_of core f ≡ suc (suc k) = omega (arith, e) in
@@ -104,32 +90,13 @@ fold_count core globals (v ∷ ids) =
 globals_count : (core : Core) → length (globals_in core) ≡ length core.variables
 globals_count core = fold_count core (replicate (length core.variables) no_bytes) core.globals ∙ length-replicate (length core.variables) no_bytes
 
--- ---- literals are numbered in their order
+-- ---- literals
 
-code_count : (core : Core) (r id : ℕ) (is : List Instruction) → behind_code core r id is ≡ id + length (flat_map (instruction_literals core r) is)
-code_count core r id [] = omega arith
-code_count core r id (i ∷ is) =
-    let e = code_count core r (id + literals_in core r i) is in
-    let f = ap length (flat_map-cons (instruction_literals core r) i is) ∙ length-append (instruction_literals core r i) (flat_map (instruction_literals core r) is) in
-    omega (arith, e, f)
-
-blocks_literals : (core : Core) (r id : ℕ) (bs : List Block) → behind_blocks core r id bs ≡ id + length (flat_map (block_literals core r) bs)
-blocks_literals core r id [] = omega arith
-blocks_literals core r id (b ∷ bs) =
-    let c = code_count core r id b.code in
-    let e = blocks_literals core r (behind_code core r id b.code) bs in
-    let f = ap length (flat_map-cons (block_literals core r) b bs) ∙ length-append (block_literals core r b) (flat_map (block_literals core r) bs) in
-    omega (arith, c, e, f)
-
-routines_count : (core : Core) (r id : ℕ) (xs : List Routine) → behind_routines core r id xs ≡ id + length (routines_literals core r xs)
-routines_count core r id [] = omega arith
-routines_count core r id (x ∷ xs) =
-    let b = blocks_literals core r id x.blocks in
-    let next : r + 1 ≡ suc r = omega arith in
-    let e = routines_count core (r + 1) (behind_blocks core r id x.blocks) xs in
-    let e' = subst (λ k. behind_routines core (r + 1) (behind_blocks core r id x.blocks) xs ≡ behind_blocks core r id x.blocks + length (routines_literals core k xs)) next e in
-    let f = length-append (routine_literals core r x) (routines_literals core (suc r) xs) in
-    omega (arith, b, e', f)
+-- what is among all of them has its number below how many they are
+each_numbered : (core : Core) (mir : Mir) (stack : ℕ) (texts : List (List ℕ)) → ((text : List ℕ) → is_among text texts ≡ true → is_among text (literals_of core mir) ≡ true) → Every (IsNumbered (low_of core mir stack) (literals_of core mir)) texts
+each_numbered core mir stack [] there = tt
+each_numbered core mir stack (text ∷ texts) there =
+    (number_within (literals_of core mir) text (there text (among_first text texts)), each_numbered core mir stack texts (λ other h. there other (among_later other text texts h)))
 
 places_count : (offset : ℕ) (ls : List (List ℕ)) → length (places_from offset ls) ≡ length ls
 places_count offset [] = refl
@@ -139,39 +106,28 @@ places_small : (offset top : ℕ) (ls : List (List ℕ)) → offset + length (fl
 places_small offset top [] less = refl
 places_small offset top (l ∷ ls) less =
     let f = ap length (flat_map-cons (λ x. x) l ls) ∙ length-append l (flat_map (λ x. x) ls) in
-    and_true _ _ (le_true offset top (omega (arith, less))) (places_small (offset + length l) top ls (omega (arith, f, less)))
+    and_from _ _ (le-leb offset top (omega (arith, less))) (places_small (offset + length l) top ls (omega (arith, f, less)))
 
 module _ (core : Core) (mir : Mir) (stack : ℕ) where
   from : List LowRoutine
-  from = routines_from core mir 0 first_literal mir.routines
+  from = routines_from core mir (literals_of core mir) 0 mir.routines
 
   last : LowRoutine
-  last = low_routine core mir (length mir.routines) (program_literal core mir) mir.program
-
-  count_literals : (low_of core mir stack).counts.literals ≡ length (literals_of core mir)
-  count_literals =
-      let a = routines_count core 0 first_literal mir.routines in
-      let b = blocks_literals core (length mir.routines) (program_literal core mir) mir.program.blocks in
-      let c = length-append (fixed_literals ++ routines_literals core 0 mir.routines) (routine_literals core (length mir.routines) mir.program) in
-      let d = length-append fixed_literals (routines_literals core 0 mir.routines) in
-      let e : length fixed_literals ≡ 7 = refl in
-      omega (arith, a, b, c, d, e)
+  last = low_routine core mir (literals_of core mir) (length mir.routines) mir.program
 
   pub laid_out : is_laid_out (low_of core mir stack) (layout_of (literals_of core mir)) ≡ true
   unfolding is_laid_out
   laid_out =
       let count : length (places_from 0 (literals_of core mir)) ≡ length (literals_of core mir) = places_count 0 (literals_of core mir) in
       let size = constants_size (layout_of (literals_of core mir)) in
-      let first = le_true (low_of core mir stack).counts.literals (length (places_from 0 (literals_of core mir))) (omega (arith, count, count_literals)) in
+      let first = le-leb (low_of core mir stack).counts.literals (length (places_from 0 (literals_of core mir))) (omega (arith, count)) in
       let less : 0 + length (flat_map (λ l. l) (literals_of core mir)) ≤ size = omega arith in
-      and_true _ _ (and_true _ _ (and_true _ _ (and_true _ _ (and_true _ _ (and_true _ _ first refl) refl) (places_small 0 size (literals_of core mir) less)) refl) refl) refl
+      and_from _ _ (and_from _ _ (and_from _ _ (and_from _ _ (and_from _ _ (and_from _ _ first refl) refl) (places_small 0 size (literals_of core mir) less)) refl) refl) refl
 
   module _ (fits : AreFitting core mir) where
+    -- those that every program has stand in front
     enough : 7 ≤ (low_of core mir stack).counts.literals
-    enough =
-        let a = routines_count core 0 first_literal mir.routines in
-        let b = blocks_grow core (length mir.routines) (program_literal core mir) mir.program.blocks in
-        omega (arith, a, b)
+    enough = let last = slice_get_within (literals_of core mir) 6 (codes "Runtime error 215" ++ line_feed) refl in omega (arith, last)
 
     globals_there : length core.variables < length (low_of core mir stack).globals
     globals_there =
@@ -183,23 +139,23 @@ module _ (core : Core) (mir : Mir) (stack : ℕ) where
     unfolding from last
     others = append_assoc runtime_routines from (last ∷ closing_routines core mir stack)
 
-    calls : (f k : ℕ) → f < length core.routines → k ≡ parameters_of core f → takes (slice_get (low_of core mir stack).routines (8 + f)) (suc (suc k)) ≡ true
+    calls : (f k : ℕ) → f < length core.routines → k ≡ parameters_of core f → takes (slice_get (low_of core mir stack).routines (9 + f)) (suc (suc k)) ≡ true
     unfolding from
     calls f k less e =
         let there : f < length mir.routines = omega (arith, fits.number, less) in
-        let inside : f < length from = omega (arith, from_count core mir mir.routines 0 first_literal, there) in
+        let inside : f < length from = omega (arith, from_count core mir (literals_of core mir) mir.routines 0, there) in
         let zero_f : 0 + f ≡ f = omega arith in
-        let own = from_at core mir mir.routines 0 first_literal f (suc (suc k)) there (ap (low_parameters core) zero_f ∙ own_parameters core f k less e) in
-        let at : slice_get (low_of core mir stack).routines (8 + f) ≡ slice_get from f = ap (λ rs. slice_get rs (8 + f)) others ∙ slice_behind runtime_routines (from ++ last ∷ closing_routines core mir stack) f ∙ slice_front from (last ∷ closing_routines core mir stack) f inside in
+        let own = from_at core mir (literals_of core mir) mir.routines 0 f (suc (suc k)) there (ap (low_parameters core) zero_f ∙ own_parameters core f k less e) in
+        let at : slice_get (low_of core mir stack).routines (9 + f) ≡ slice_get from f = ap (λ rs. slice_get rs (9 + f)) others ∙ slice_get-behind runtime_routines (from ++ last ∷ closing_routines core mir stack) f ∙ slice_get-front from (last ∷ closing_routines core mir stack) f inside in
         subst (λ o. takes o (suc (suc k)) ≡ true) (sym at) own
 
-    begins : takes (slice_get (low_of core mir stack).routines (8 + length mir.routines)) 0 ≡ true
+    begins : takes (slice_get (low_of core mir stack).routines (9 + length mir.routines)) 0 ≡ true
     unfolding from last
     begins =
-        let count : length from + 0 ≡ length mir.routines = omega (arith, from_count core mir mir.routines 0 first_literal) in
-        let there = subst (λ k. slice_get (from ++ last ∷ closing_routines core mir stack) k ≡ Some last) count (slice_behind from (last ∷ closing_routines core mir stack) 0) in
-        let at : slice_get (low_of core mir stack).routines (8 + length mir.routines) ≡ Some last = ap (λ rs. slice_get rs (8 + length mir.routines)) others ∙ slice_behind runtime_routines (from ++ last ∷ closing_routines core mir stack) (length mir.routines) ∙ there in
-        let none : takes (Some last) 0 ≡ true = eq_true _ _ (low_has core mir (length mir.routines) (program_literal core mir) mir.program ∙ no_parameters core (length mir.routines) fits.number) in
+        let count : length from + 0 ≡ length mir.routines = omega (arith, from_count core mir (literals_of core mir) mir.routines 0) in
+        let there = subst (λ k. slice_get (from ++ last ∷ closing_routines core mir stack) k ≡ Some last) count (slice_get-behind from (last ∷ closing_routines core mir stack) 0) in
+        let at : slice_get (low_of core mir stack).routines (9 + length mir.routines) ≡ Some last = ap (λ rs. slice_get rs (9 + length mir.routines)) others ∙ slice_get-behind runtime_routines (from ++ last ∷ closing_routines core mir stack) (length mir.routines) ∙ there in
+        let none : takes (Some last) 0 ≡ true = eq_true _ _ (low_has core mir (literals_of core mir) (length mir.routines) mir.program ∙ no_parameters core (length mir.routines) fits.number) in
         subst (λ o. takes o 0 ≡ true) (sym at) none
 
     -- the closing stands behind all other routines
@@ -207,15 +163,15 @@ module _ (core : Core) (mir : Mir) (stack : ℕ) where
     unfolding from last
     ends closes =
         let closing = last ∷ closing_routines core mir stack in
-        let number : closing_number core ≡ 8 + (length mir.routines + 1) = omega (arith, fits.number) in
-        let count : length from + 1 ≡ length mir.routines + 1 = omega (arith, from_count core mir mir.routines 0 first_literal) in
-        let there = subst (λ k. slice_get (from ++ closing) k ≡ slice_get (closing_routines core mir stack) 0) count (slice_behind from closing 1) in
+        let number : closing_number core ≡ 9 + (length mir.routines + 1) = omega (arith, fits.number) in
+        let count : length from + 1 ≡ length mir.routines + 1 = omega (arith, from_count core mir (literals_of core mir) mir.routines 0) in
+        let there = subst (λ k. slice_get (from ++ closing) k ≡ slice_get (closing_routines core mir stack) 0) count (slice_get-behind from closing 1) in
         let at : slice_get (low_of core mir stack).routines (closing_number core) ≡ Some (closing_routine core mir stack) =
-        ap (slice_get (low_of core mir stack).routines) number ∙ ap (λ rs. slice_get rs (8 + (length mir.routines + 1))) others ∙ slice_behind runtime_routines (from ++ closing) (length mir.routines + 1) ∙ there
+        ap (slice_get (low_of core mir stack).routines) number ∙ ap (λ rs. slice_get rs (9 + (length mir.routines + 1))) others ∙ slice_get-behind runtime_routines (from ++ closing) (length mir.routines + 1) ∙ there
         ∙ ap (λ b. slice_get (if b then closing_routine core mir stack ∷ [] else []) 0) closes in
         subst (λ o. takes o 2 ≡ true) (sym at) refl
 
-    parts_taken : (fs : List RoutineId) → Every (IsPart core) fs → Every (λ f. takes (slice_get (low_of core mir stack).routines (8 + f.0)) 2 ≡ true) fs
+    parts_taken : (fs : List RoutineId) → Every (IsPart core) fs → Every (λ f. takes (slice_get (low_of core mir stack).routines (9 + f.0)) 2 ≡ true) fs
     parts_taken [] are = tt
     parts_taken (f ∷ fs) are = (calls f.0 0 are.0.0 (sym are.0.1), parts_taken fs are.1)
 
@@ -228,27 +184,24 @@ module _ (core : Core) (mir : Mir) (stack : ℕ) where
       where
         by : (b : Bool) → list_all (is_valid_routine (low_of core mir stack)) (if b then closing_routine core mir stack ∷ [] else []) ≡ true
         by false = refl
-        by true = and_true _ true (closing_valid (low_of core mir stack) core mir stack globals_there enough (parts_taken (finalizations core) fits.parts)) refl
+        by true = and_from _ true (closing_valid (low_of core mir stack) core mir stack globals_there enough (parts_taken (finalizations core) fits.parts)) refl
 
     pub valid : is_valid (low_of core mir stack) ≡ true
     unfolding is_valid from last
     valid =
         let low = low_of core mir stack in
-        let grows = blocks_grow core (length mir.routines) (program_literal core mir) mir.program.blocks in
         let zeros = valid_routines low (from ++ last ∷ closing_routines core mir stack) others (omega (arith, enough)) in
-        let own = from_valid low core mir fits.sizes (from ++ last ∷ closing_routines core mir stack) others globals_there enough calls ends mir.routines 0 first_literal (λ k x e. let zero_k : 0 + k ≡ k = omega arith in subst (λ j. IsFitting core j x) (sym zero_k) (fits.routines k x e)) grows in
-        let program = low_valid low core mir fits.sizes (from ++ last ∷ closing_routines core mir stack) others globals_there enough calls ends (length mir.routines) (program_literal core mir) mir.program fits.program (le_refl _) in
-        let front = list_all-append (is_valid_routine low) runtime_routines from ∙ and_true _ _ zeros own in
-        let all = list_all-append (is_valid_routine low) (runtime_routines ++ from) (last ∷ closing_routines core mir stack) ∙ and_true _ _ front (and_true _ _ program closing_there) in
-        and_true _ _ begins all
+        let own = from_valid low core mir fits.sizes (from ++ last ∷ closing_routines core mir stack) others globals_there enough calls ends mir.routines 0 (literals_of core mir) (λ k x e. let zero_k : 0 + k ≡ k = omega arith in subst (λ j. IsFitting core j x) (sym zero_k) (fits.routines k x e)) (each_numbered core mir stack (routines_literals core 0 mir.routines) (routines_among core mir)) in
+        let program = low_valid low core mir fits.sizes (from ++ last ∷ closing_routines core mir stack) others globals_there enough calls ends (length mir.routines) (literals_of core mir) mir.program fits.program (each_numbered core mir stack (routine_literals core (length mir.routines) mir.program) (program_among core mir)) in
+        let front = list_all-append (is_valid_routine low) runtime_routines from ∙ and_from _ _ zeros own in
+        let all = list_all-append (is_valid_routine low) (runtime_routines ++ from) (last ∷ closing_routines core mir stack) ∙ and_from _ _ front (and_from _ _ program closing_there) in
+        and_from _ _ begins all
 
-    stack_bytes : global_size (stack_global stack) ≡ 4
-    unfolding global_size
-    stack_bytes = refl
-
-    pub buildable : globals_size (globals_in core) ≤ 15728636 → is_buildable (low_of core mir stack) (layout_of (literals_of core mir)) ≡ true
+    -- what lies between global variables takes no more than three quarters of their bytes
+    pub buildable : sum_by variable_size (globals_in core) ≤ 8388608 → is_buildable (low_of core mir stack) (layout_of (literals_of core mir)) ≡ true
     unfolding is_buildable
     buildable small =
-        let a = sum_by-append global_size (globals_in core) (stack_global stack ∷ []) in
-        let b : 0 + global_size (stack_global stack) ≡ 4 = omega (arith, stack_bytes) in
-        and_true _ _ (and_true _ _ valid laid_out) (le_true (globals_size (low_of core mir stack).globals) 15728640 (omega (arith, a, b, small)))
+        let a = sum_by-append variable_size (globals_in core) (stack_global stack ∷ []) in
+        let b : 0 + variable_size (stack_global stack) ≡ 4 = refl in
+        let most = size_most (low_of core mir stack).globals in
+        and_from _ _ (and_from _ _ valid laid_out) (le-leb (globals_size (low_of core mir stack).globals) 15728640 (omega (arith, a, b, small, most)))

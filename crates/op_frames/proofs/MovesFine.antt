@@ -1,8 +1,9 @@
 -- The low code of actions has its operands in range.
-use Rattle.std.proofs.Common.{◌≡◌, ◌<◌, ◌≤◌, ℕ, zero, suc, ℤ, pos, negsuc, ◌+◌, ◌*◌, ◌-◌, ◌/◌, ◌^◌, ◌-ℤ◌, max, Bool, true, false, List, [], ◌∷◌, ◌++◌, length, map, nat_eq, nat_le, nat_lt, slice_get, Option, Some, None, refl, sym, ap, ◌∙◌, subst, arith, if◌then◌else◌, FitsSigned}
-use Rattle.std.proofs.lemmas.Bool.Decides.{nat_tests}
+use Rattle.std.proofs.Common.{◌≡◌, ◌<◌, ◌≤◌, ℕ, zero, suc, ℤ, pos, negsuc, ◌+◌, ◌*◌, ◌-◌, ◌/◌, ◌^◌, ◌-ℤ◌, max, Bool, true, false, List, [], ◌∷◌, ◌++◌, length, map, nat_eq, slice_get, Option, Some, None, refl, sym, ap, ◌∙◌, subst, arith, if◌then◌else◌, FitsSigned}
+use Rattle.std.proofs.lemmas.Bool.{leb-true, lt-ltb}
 use Rattle.std.specs.Int.{w32, cast_unsigned}
 use Rattle.std.proofs.lemmas.List.{length-map}
+use Rattle.std.proofs.lemmas.Grind.{div_ceil_times}
 use Rattle.op_compute.specs.Bank.{error_block_of, register_of, scratch_of, work_of, operands_of}
 use Rattle.op_compute.specs.Computing.{constant_code, registers_of, code_of, computation_code}
 use Rattle.op_compute.specs.Conversions.{low_bits_code}
@@ -14,8 +15,8 @@ use Rattle.op_core.specs.declared.ids.TypeId.{TypeId}
 use Rattle.op_core.specs.declared.program.Core.{Core}
 use Rattle.op_core.specs.declared.routine.Variable.{Variable}
 use Rattle.op_core.specs.declared.types.IntegerKind.{IntegerKind}
-use Rattle.op_expand.specs.Homes.{home_at}
-use Rattle.op_expand.specs.Moves.{load_op, store_op, near, held_by, held, load_code, store_code, by_words, unit_of, units_in, is_short, limit_of, unit_load, unit_store, unit_code, units_code, copy_number, bytes_code, copy_code, number_begun, taken_code, parts_begun, begun_by, begun_code, row_of, pick_code, text_code, written_by, writing_code, action_code}
+use Rattle.op_expand.specs.Homes.{home_at, rounded}
+use Rattle.op_expand.specs.Moves.{load_op, store_op, near, held_by, held, load_code, store_code, by_words, unit_of, units_in, is_short, limit_of, unit_load, unit_store, unit_code, units_code, copy_number, bytes_code, copy_code, number_begun, taken_code, parts_begun, begun_by, begun_code, row_of, pick_code, text_code, written_by, writing_code, action_code, zeros_begun}
 use Rattle.op_expand.specs.Places.{home_of, place_code, place_of}
 use Rattle.op_expand.specs.declared.frame.Frame.{Frame}
 use Rattle.op_expand.specs.declared.homes.Home.{Home}
@@ -48,7 +49,7 @@ use Rattle.op_mir.specs.declared.path.Path.{Path}
 use Rattle.op_mir.specs.declared.path.Root.{Root}
 use Rattle.op_mir.specs.declared.path.Root.TheVariants.{Global, Local, Through, Temporary}
 use Rattle.op_mir.specs.declared.path.Step.{Step}
-use Rattle.op_rt_text.specs.Names.{call, literal, copy_words_number, copy_bytes_number, take_number, write_bytes_number, write_char_number, write_number_number, write_truth_number}
+use Rattle.op_rt_text.specs.Names.{call, clear_number, literal, copy_words_number, copy_bytes_number, take_number, write_bytes_number, write_char_number, write_number_number, write_truth_number}
 use Rattle.op_rt_text.specs.Runtime.{runtime_routines}
 use Rattle.op_rv.specs.Encoding.{is_imm}
 use Rattle.op_rv.specs.Operation.{word_from}
@@ -73,14 +74,8 @@ held_fine m (Global v) steps home h = tt
 held_fine m (Through v) steps home h = tt
 held_fine m (Temporary of k) steps home h = tt
 
-lt_true : (a b : ℕ) → a < b → nat_lt a b ≡ true
-lt_true a b p = grind (arith, nat_tests)
-
-is_le : (a b : ℕ) → nat_le a b ≡ true → a ≤ b
-is_le a b e = grind (arith, nat_tests)
-
 near_imm : (n : ℕ) → n < 2 ^ 11 → is_imm (pos n) ≡ true
-near_imm n p = lt_true n (2 ^ 11) p
+near_imm n p = lt-ltb n (2 ^ 11) p
 
 -- a variable without steps
 abbrev pub local_path : LocalId → Path
@@ -146,7 +141,7 @@ module _ (m : Bounds) (core : Core) (frame : Frame) (n : ℕ) (is : IsFrame m co
       ((c, a, near_imm _ (omega (arith, small, f))), ((c, b, near_imm _ (omega (arith, small, t))), tt))
 
   bytes_by : (short words : Bool) (size : ℕ) (from to : Spot) → is_short words size ≡ short → size ≤ 1048576 → from.offset ≤ (if short then near else 0) → to.offset ≤ (if short then near else 0) → Below m from.base → Below m to.base → Below m to.free → AreFine m (if short then units_code words (units_in words size) from to else Const to.free size ∷ call (copy_number words) (to.base ∷ from.base ∷ to.free ∷ []) to.free ∷ [])
-  bytes_by true words size from to e small f t a b c = units_fine words (units_in words size) from to (is_le _ 8 e) f t a b c
+  bytes_by true words size from to e small f t a b c = units_fine words (units_in words size) from to (leb-true _ 8 e) f t a b c
   bytes_by false words size from to e small f t a b c = ((c, omega (arith, small)), (((b, (a, (c, tt))), c, copy_takes words, refl), tt))
 
   pub bytes_fine : (words : Bool) (size : ℕ) (from to : Spot) → size ≤ 1048576 → from.offset ≤ limit_of words size → to.offset ≤ limit_of words size → Below m from.base → Below m to.base → Below m to.free → AreFine m (bytes_code words size from to)
@@ -207,7 +202,21 @@ module _ (m : Bounds) (core : Core) (frame : Frame) (n : ℕ) (is : IsFrame m co
 
   pub parts_begun_fine : (size id : ℕ) (v : LocalId) → size ≤ 1048576 → id < m.low.counts.literals → Below m frame.spare → frame.bank.scratch + 1 ≤ m.registers → AreFine m (parts_begun core frame size id v)
   unfolding has_symbol
-  parts_begun_fine size id v small there s room = ((s, lt_true id m.low.counts.literals there), taken_fine frame.spare size v small s room)
+  parts_begun_fine size id v small there s room = ((s, lt-ltb id m.low.counts.literals there), taken_fine frame.spare size v small s room)
+
+  zeros_by : (empty : Bool) (size : ℕ) (v : LocalId) → size ≤ 1048576 → Below m frame.spare → frame.bank.scratch + 1 ≤ m.registers → AreFine m (if empty then Const frame.spare 0 ∷ [] else place_code core frame 0 (Local v) [] (scratch_of frame.bank 0) ++ Const frame.spare (rounded size) ∷ call clear_number ((place_of core frame 0 (Local v) [] (scratch_of frame.bank 0)).base ∷ frame.spare ∷ []) frame.spare ∷ [])
+  zeros_by true size v small s room = ((s, omega arith), tt)
+  zeros_by false size v small s room =
+      let p = local_path v in
+      let room' : frame.bank.scratch + 0 + 1 ≤ m.registers = omega (arith, room) in
+      let spot = path_spot 0 p (scratch_of frame.bank 0) (tt, tt, omega arith) (omega arith) room' in
+      let (least, most) = div_ceil_times size 4 (omega arith) in
+      joined m _ _ (path_fine 0 p (scratch_of frame.bank 0) (tt, tt, omega arith) (omega arith) room')
+      ((s, omega (arith, small, most)), (((spot.base, (s, tt)), s, runtime_takes clear_number 2 (λ others. refl), refl), tt))
+
+  pub zeros_begun_fine : (size : ℕ) (v : LocalId) → size ≤ 1048576 → Below m frame.spare → frame.bank.scratch + 1 ≤ m.registers → AreFine m (zeros_begun core frame size v)
+  unfolding zeros_begun
+  zeros_begun_fine size v small s room = zeros_by (nat_eq size 0) size v small s room
 
   -- ---- literals, and the console
 
@@ -216,14 +225,14 @@ module _ (m : Bounds) (core : Core) (frame : Frame) (n : ℕ) (is : IsFrame m co
   pick_fine id to size index there small t i room =
       let a : Below m (scratch_of frame.bank 0) = omega (arith, room) in
       let b : Below m (scratch_of frame.bank 1) = omega (arith, room) in
-      ((a, i, refl), ((b, small), ((a, b, omega (arith, is.errors)), ((b, lt_true id m.low.counts.literals there), ((a, b, a), ((t, a, refl), tt))))))
+      ((a, i, refl), ((b, small), ((a, b, omega (arith, is.errors)), ((b, lt-ltb id m.low.counts.literals there), ((a, b, a), ((t, a, refl), tt))))))
 
   pub text_fine : (id size : ℕ) (width : VirtualRegister) → id < m.low.counts.literals → size < 2 ^ 32 → Below m width → frame.bank.scratch + 3 ≤ m.registers → AreFine m (text_code frame id size width)
   unfolding has_symbol
   text_fine id size width there small w room =
       let a : Below m (scratch_of frame.bank 0) = omega (arith, room) in
       let b : Below m (scratch_of frame.bank 1) = omega (arith, room) in
-      ((a, lt_true id m.low.counts.literals there), ((b, small), (((a, (b, (w, tt))), a, runtime_takes write_bytes_number 3 (λ others. refl), refl), tt)))
+      ((a, lt-ltb id m.low.counts.literals there), ((b, small), (((a, (b, (w, tt))), a, runtime_takes write_bytes_number 3 (λ others. refl), refl), tt)))
 
   pub register_below : (t : TemporaryId) → up_to t ≤ n → Below m (register_of frame.bank t)
   register_below t p = temporary_below m core frame n is temporaries t.0 (omega (arith, p))

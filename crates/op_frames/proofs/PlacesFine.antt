@@ -5,7 +5,7 @@ use Rattle.op_core.specs.Sizes.{type_at}
 use Rattle.op_core.specs.declared.types.CoreType.{CoreType}
 use Rattle.op_core.specs.declared.types.CoreType.TheVariants.{Array}
 use Rattle.std.proofs.Common.{◌≡◌, ◌<◌, ◌≤◌, ℕ, suc, ℤ, pos, negsuc, ◌+◌, ◌*◌, ◌-◌, ◌^◌, ◌-ℤ◌, max, fold, le_refl, true≢false, Option, Some, None, Bool, true, false, List, [], ◌∷◌, ◌++◌, length, map, nat_eq, nat_le, nat_lt, refl, sym, ap, ◌∙◌, subst, arith, if◌then◌else◌}
-use Rattle.std.proofs.lemmas.Bool.Decides.{nat_tests}
+use Rattle.std.proofs.lemmas.Bool.{le-leb, leb-true, lt-ltb, ltb-true}
 use Rattle.std.specs.Int.{w32, cast_unsigned}
 use Rattle.op_compute.specs.Bank.{error_block_of, register_of, scratch_of}
 use Rattle.op_compute.specs.Ranges.{distance_code, distance_register, sum_with}
@@ -61,18 +61,6 @@ Temporaries frame n = frame.bank.temporaries + n ≡ frame.bank.scratch
 
 -- ---- numbers
 
-lt_true : (a b : ℕ) → a < b → nat_lt a b ≡ true
-lt_true a b p = grind (arith, nat_tests)
-
-le_true : (a b : ℕ) → a ≤ b → nat_le a b ≡ true
-le_true a b p = grind (arith, nat_tests)
-
-is_lt : (a b : ℕ) → nat_lt a b ≡ true → a < b
-is_lt a b e = grind (arith, nat_tests)
-
-is_le : (a b : ℕ) → nat_le a b ≡ true → a ≤ b
-is_le a b e = grind (arith, nat_tests)
-
 pub word_of_number : (n : ℕ) → n < 2 ^ 32 → cast_unsigned w32 (pos n) < 2 ^ 32
 word_of_number n p = p
 
@@ -118,7 +106,7 @@ module _ (m : Bounds) (core : Core) (frame : Frame) (n : ℕ) (is : IsFrame m co
   temporary_below t p = omega (arith, p, temporaries, is.scratch)
 
   stored_by : (inside : Bool) (to : VirtualRegister) (offset : ℕ) → nat_lt offset frame.locals ≡ inside → Below m to → AreFine m (if inside then LocalAddress to offset ∷ [] else Const to 0 ∷ [])
-  stored_by true to offset e t = ((t, subst (λ l. offset < l) is.locals (is_lt offset frame.locals e)), tt)
+  stored_by true to offset e t = ((t, subst (λ l. offset < l) is.locals (ltb-true offset frame.locals e)), tt)
   stored_by false to offset e t = ((t, omega arith), tt)
 
   stored_fine : (to : VirtualRegister) (offset : ℕ) → Below m to → AreFine m (stored_code frame to offset)
@@ -128,7 +116,7 @@ module _ (m : Bounds) (core : Core) (frame : Frame) (n : ℕ) (is : IsFrame m co
   unfolding has_symbol
   home_fine free (Held r) h f = tt
   home_fine free (Stored offset) h f = stored_fine free offset f
-  home_fine free (Shared id) h f = ((f, lt_true id.0 (length m.low.globals) h), tt)
+  home_fine free (Shared id) h f = ((f, lt-ltb id.0 (length m.low.globals) h), tt)
 
   pub root_home : (root : Root) → IsNamedRoot core (view_root root) → IsHome m (home_of core frame root)
   root_home (Global v) named = omega (arith, is.globals, named)
@@ -214,7 +202,7 @@ module _ (m : Bounds) (core : Core) (frame : Frame) (n : ℕ) (is : IsFrame m co
   reached_by false k spot s room f = record { base = f refl; free_is = room refl }
 
   reached_near : (near : Bool) (limit : ℕ) (spot : Spot) → nat_le spot.offset limit ≡ near → (if near then spot else at_scratch spot.free).offset ≤ limit
-  reached_near true limit spot e = is_le spot.offset limit e
+  reached_near true limit spot e = leb-true spot.offset limit e
   reached_near false limit spot e = omega arith
 
   pub place_near : (limit : ℕ) (root : Root) (steps : List Step) (free : VirtualRegister) → (place_of core frame limit root steps free).offset ≤ limit
@@ -228,7 +216,7 @@ module _ (m : Bounds) (core : Core) (frame : Frame) (n : ℕ) (is : IsFrame m co
   -- where a distance has to be reached there is a step
   far_steps : (limit : ℕ) (steps : List Step) (spot : Spot) → spot.offset ≡ 0 → nat_le (steps_spot core steps spot).offset limit ≡ false → 1 ≤ length steps
   far_steps limit [] spot zero e =
-      let near : nat_le spot.offset limit ≡ true = ap (λ o. nat_le o limit) zero ∙ le_true 0 limit (omega arith) in
+      let near : nat_le spot.offset limit ≡ true = ap (λ o. nat_le o limit) zero ∙ le-leb 0 limit (omega arith) in
       absurd (true≢false (sym near ∙ e))
   far_steps limit (s ∷ steps) spot zero e = omega arith
 

@@ -1,32 +1,35 @@
 -- The low code of a program that fits is valid.
-use Rattle.std.proofs.Common.{◌≡◌, ◌<◌, ◌≤◌, ℕ, suc, ◌+◌, max, Bool, true, false, ◌&&◌, List, [], ◌∷◌, ◌++◌, length, map, take, nat_eq, nat_lt, slice_get, Option, Some, inl, inr, ◌⊎◌, true≢false, refl, sym, ap, ◌∙◌, subst, arith, le_refl, length-append, if◌then◌else◌}
+use Rattle.std.proofs.Common.{◌≡◌, ◌<◌, ◌≤◌, ℕ, suc, ◌+◌, max, Bool, true, false, List, [], ◌∷◌, ◌++◌, length, map, take, nat_eq, nat_lt, slice_get, Option, Some, inl, inr, ◌⊎◌, true≢false, refl, sym, ap, ◌∙◌, subst, arith, le_refl, length-append, if◌then◌else◌}
+use Rattle.std.proofs.lemmas.Bool.{and_from, ltb-false}
 use Rattle.std.proofs.lemmas.Bool.Decides.{nat_tests}
 use Rattle.std.proofs.lemmas.List.{length-map}
 use Rattle.std.specs.List.{list_all, list_any}
 use Rattle.op_compute.specs.Bank.{scratch_of}
+use Rattle.op_constants.specs.Literals.{routine_literals, routines_literals}
 use Rattle.op_constants.specs.Offsets.{size_in}
 use Rattle.op_core.specs.Rows.{rows}
 use Rattle.op_core.specs.declared.ids.TypeId.{TypeId}
 use Rattle.op_core.specs.declared.program.Core.{Core}
+use Rattle.op_expand.proofs.RoomLemmas.{behind_grows}
 use Rattle.op_expand.specs.Calls.{has_closing, closing_number}
 use Rattle.op_expand.specs.Frames.{frame_of, first_room, parameters_of, variables_room}
 use Rattle.op_expand.specs.Homes.{home_at, parameter, roots_of}
 use Rattle.op_expand.specs.Moves.{held, held_by}
-use Rattle.op_expand.specs.Programs.{behind_routines, routines_from}
+use Rattle.op_expand.specs.Programs.{routines_from}
 use Rattle.op_expand.specs.Registers.{registers_in}
-use Rattle.op_expand.specs.Routines.{all_blocks, beginning, behind_blocks, blocks_of, error_block, error_blocks, low_parameters, low_routine, most_charge, routine_with}
+use Rattle.op_expand.specs.Routines.{all_blocks, beginning, blocks_of, error_block, error_blocks, low_parameters, low_routine, most_charge, routine_with}
 use Rattle.op_expand.specs.declared.frame.Returning.{Returning}
 use Rattle.op_expand.specs.declared.frame.Returning.TheVariants.{Ending, Nothing, Result}
 use Rattle.op_expand.specs.declared.homes.Home.{Home}
 use Rattle.op_expand.specs.declared.homes.Home.TheVariants.{Held, Shared, Stored}
 use Rattle.op_frames.proofs.CallsFine.{CanReturn, TakesClosing}
-use Rattle.op_frames.proofs.CodeFine.{CanBegin, CanDo}
+use Rattle.op_frames.proofs.CodeFine.{CanBegin, CanDo, IsNumbered}
 use Rattle.op_frames.proofs.Fine.{Bounds, Below}
-use Rattle.op_frames.proofs.FramesFine.{behind_grows, beginning_fine, homes_below, locals_whole, spare_below, spare_given, taken_few}
+use Rattle.op_frames.proofs.FramesFine.{beginning_fine, homes_below, locals_whole, spare_below, spare_given, taken_few}
 use Rattle.op_frames.proofs.MadeLemmas.{every_append}
 use Rattle.op_frames.proofs.MovesFine.{HasRuntime}
 use Rattle.op_frames.proofs.PlacesFine.{IsFrame, Temporaries, most_each}
-use Rattle.op_frames.proofs.RoutineFine.{IsFineBlock, IsGood, IsGoodBlock, blocks_count, blocks_fine, blocks_grow, errors_fine, registers_under, stack_fine, valid_routine}
+use Rattle.op_frames.proofs.RoutineFine.{IsFineBlock, IsGood, IsGoodBlock, blocks_count, blocks_fine, errors_fine, registers_under, stack_fine, valid_routine, every_split}
 use Rattle.op_frames.specs.Fitting.{IsFitting, begin_of_block, begin_of_routine, begin_room, is_held, is_stored, registers_of_routine, room_of_block, room_of_instruction, scratch_of_routine}
 use Rattle.op_frames.specs.Made.{Every, IsCode}
 use Rattle.op_frames.specs.Named.{IsNamed}
@@ -49,12 +52,6 @@ use Rattle.op_mir.specs.declared.instruction.Instruction.TheVariants.{Act, Call,
 use Rattle.op_mir.specs.declared.path.Root.TheVariants.{Local}
 use Rattle.op_rt_text.specs.Runtime.{runtime_routines}
 
-and_true : (a b : Bool) → a ≡ true → b ≡ true → (a && b) ≡ true
-and_true a b p q = cc
-
-lt_false : (a b : ℕ) → nat_lt a b ≡ false → b ≤ a
-lt_false a b e = grind (arith, nat_tests)
-
 under_over : (a b : ℕ) → nat_lt a b ≡ true → b ≤ a → ⊥
 under_over a b e less = grind (arith, nat_tests)
 
@@ -62,7 +59,7 @@ under_over a b e less = grind (arith, nat_tests)
 
 module _ (m : Bounds) (core : Core) (r : ℕ) (routine : Routine) (n blocks most : ℕ) (is : IsFrame m core (frame_of core r routine)) (temporaries : Temporaries (frame_of core r routine) n) (runtime : HasRuntime m) (fewer : blocks ≤ m.blocks) (mir : Mir)
     (few : 2 + parameters_of core r ≤ m.registers) (one : (frame_of core r routine).bank.scratch + 1 ≤ m.registers) (three : 3 ≤ m.registers) (room : (frame_of core r routine).bank.scratch + most ≤ m.registers)
-    (calls : (f k : ℕ) → f < length core.routines → k ≡ parameters_of core f → takes (slice_get m.low.routines (8 + f)) (suc (suc k)) ≡ true) (ends : TakesClosing m core) where
+    (calls : (f k : ℕ) → f < length core.routines → k ≡ parameters_of core f → takes (slice_get m.low.routines (9 + f)) (suc (suc k)) ≡ true) (ends : TakesClosing m core) where
   can_return : (returning : Returning) → CanReturn m core (frame_of core r routine) returning
   can_return Ending = (ends, one)
   can_return Nothing = tt
@@ -139,7 +136,7 @@ begins_max : (b k : ℕ) → b ≤ max (max 1 b) k
 begins_max b k = omega arith
 
 module _ (low : Low) (core : Core) (mir : Mir) (sizes : (of : TypeId) → size_in core of ≤ 1048576) (others : List LowRoutine) (routines : low.routines ≡ runtime_routines ++ others) (globals : length core.variables < length low.globals) (enough : 7 ≤ low.counts.literals)
-    (calls : (f k : ℕ) → f < length core.routines → k ≡ parameters_of core f → takes (slice_get low.routines (8 + f)) (suc (suc k)) ≡ true) (ends : has_closing core ≡ true → takes (slice_get low.routines (closing_number core)) 2 ≡ true) where
+    (calls : (f k : ℕ) → f < length core.routines → k ≡ parameters_of core f → takes (slice_get low.routines (9 + f)) (suc (suc k)) ≡ true) (ends : has_closing core ≡ true → takes (slice_get low.routines (closing_number core)) 2 ≡ true) where
   parameters_by : (last : Bool) (k : ℕ) → (if last then 0 else parameter k) ≤ 2 + k
   parameters_by true k = omega arith
   parameters_by false k = le_refl (2 + k)
@@ -153,7 +150,7 @@ module _ (low : Low) (core : Core) (mir : Mir) (sizes : (of : TypeId) → size_i
       let m : Bounds = record { low = low; locals = 0; blocks = 1; registers = 2 + parameters_of core r } in
       valid_routine m (low_parameters core r) (error_block 202 5 ∷ []) refl (stack_fine m enough (omega arith)) (omega arith) (low_few r) (omega (arith, few)) (omega arith) refl (omega arith)
 
-  module _ (r id : ℕ) (routine : Routine) (fits : IsFitting core r routine) (literals : behind_blocks core r id routine.blocks ≤ low.counts.literals) where
+  module _ (r : ℕ) (texts : List (List ℕ)) (routine : Routine) (fits : IsFitting core r routine) (literals : Every (IsNumbered low texts) (routine_literals core r routine)) where
     abbrev bounds : Bounds
     bounds = record { low = low; locals = (frame_of core r routine).locals; blocks = length routine.blocks + 4; registers = registers_of_routine core r routine }
 
@@ -186,7 +183,7 @@ module _ (low : Low) (core : Core) (mir : Mir) (sizes : (of : TypeId) → size_i
     low_fits : low_parameters core r ≤ registers_of_routine core r routine
     low_fits = omega (arith, low_few r, few_parameters)
 
-    all_fine : Every (IsFineBlock bounds) (all_blocks core mir r id routine)
+    all_fine : Every (IsFineBlock bounds) (all_blocks core mir texts r routine)
     all_fine =
         let m = bounds in
         let frame = frame_of core r routine in
@@ -199,49 +196,43 @@ module _ (low : Low) (core : Core) (mir : Mir) (sizes : (of : TypeId) → size_i
         let begins = most_each (begin_of_block core r frame) routine.blocks most (begins_max (begin_of_routine core r routine) (most_of (room_of_block core r) routine.blocks)) in
         let good = good_blocks m core r routine routine.temporaries (length routine.blocks) most the_frame the_temporaries the_runtime fewer mir few_parameters one three (omega arith) calls ends routine.blocks fits.code (most_each in_block routine.blocks routine.temporaries t) rooms begins in
         let front = beginning_fine m core r routine routine.temporaries the_frame the_temporaries the_runtime few_parameters one in
-        let fine = blocks_fine m core r routine routine.temporaries (length routine.blocks) the_frame the_temporaries the_runtime fewer mir id (beginning core frame r) routine.blocks front good literals in
+        let fine = blocks_fine m core r routine routine.temporaries (length routine.blocks) the_frame the_temporaries the_runtime fewer mir texts (beginning core frame r) routine.blocks front good literals in
         let two_registers : 2 ≤ m.registers = omega (arith, three) in
-        every_append (IsFineBlock m) (blocks_of core mir frame r id (beginning core frame r) routine.blocks) error_blocks fine (errors_fine m enough two_registers)
+        every_append (IsFineBlock m) (blocks_of core mir frame texts (beginning core frame r) routine.blocks) error_blocks fine (errors_fine m enough two_registers)
 
-    under_valid : routine.charge ≤ most_charge → is_valid_routine low (routine_with (low_parameters core r) (frame_of core r routine).locals (all_blocks core mir r id routine)) ≡ true
+    under_valid : routine.charge ≤ most_charge → is_valid_routine low (routine_with (low_parameters core r) (frame_of core r routine).locals (all_blocks core mir texts r routine)) ≡ true
     under_valid charge =
         let m = bounds in
         let frame = frame_of core r routine in
         let fewer : length routine.blocks ≤ m.blocks = omega arith in
         let three : 3 ≤ m.registers = three_there in
-        let count : length (all_blocks core mir r id routine) ≡ m.blocks = length-append (blocks_of core mir frame r id (beginning core frame r) routine.blocks) error_blocks ∙ ap (λ k. k + 4) (blocks_count m core r routine routine.temporaries (length routine.blocks) the_frame the_temporaries the_runtime fewer mir id (beginning core frame r) routine.blocks) in
-        let there : 0 < length (all_blocks core mir r id routine) = omega (arith, count) in
-        valid_routine m (low_parameters core r) (all_blocks core mir r id routine) count all_fine (omega (arith, three)) low_fits (fits.registers charge) (fits.locals charge) (locals_whole core r routine) there
+        let count : length (all_blocks core mir texts r routine) ≡ m.blocks = length-append (blocks_of core mir frame texts (beginning core frame r) routine.blocks) error_blocks ∙ ap (λ k. k + 4) (blocks_count m core r routine routine.temporaries (length routine.blocks) the_frame the_temporaries the_runtime fewer mir texts (beginning core frame r) routine.blocks) in
+        let there : 0 < length (all_blocks core mir texts r routine) = omega (arith, count) in
+        valid_routine m (low_parameters core r) (all_blocks core mir texts r routine) count all_fine (omega (arith, three)) low_fits (fits.registers charge) (fits.locals charge) (locals_whole core r routine) there
 
     -- its registers are no more than are counted, and its locals are those of the frame
-    pub low_frame : routine.charge ≤ most_charge → ((low_routine core mir r id routine).registers ≤ registers_of_routine core r routine) × ((low_routine core mir r id routine).locals ≡ (frame_of core r routine).locals)
-    low_frame charge = by (nat_lt most_charge routine.charge) refl (registers_under bounds (low_parameters core r) (all_blocks core mir r id routine) (omega (arith, three_there)) low_fits all_fine)
+    pub low_frame : routine.charge ≤ most_charge → ((low_routine core mir texts r routine).registers ≤ registers_of_routine core r routine) × ((low_routine core mir texts r routine).locals ≡ (frame_of core r routine).locals)
+    low_frame charge = by (nat_lt most_charge routine.charge) refl (registers_under bounds (low_parameters core r) (all_blocks core mir texts r routine) (omega (arith, three_there)) low_fits all_fine)
       where
-        by : (over : Bool) → nat_lt most_charge routine.charge ≡ over → registers_in (low_parameters core r) (all_blocks core mir r id routine) ≤ registers_of_routine core r routine → ((low_routine core mir r id routine).registers ≤ registers_of_routine core r routine) × ((low_routine core mir r id routine).locals ≡ (frame_of core r routine).locals)
+        by : (over : Bool) → nat_lt most_charge routine.charge ≡ over → registers_in (low_parameters core r) (all_blocks core mir texts r routine) ≤ registers_of_routine core r routine → ((low_routine core mir texts r routine).registers ≤ registers_of_routine core r routine) × ((low_routine core mir texts r routine).locals ≡ (frame_of core r routine).locals)
         by true e few = absurd (under_over most_charge routine.charge e charge)
         by false e few = rw e (few, refl)
 
-    routine_by : (over : Bool) → nat_lt most_charge routine.charge ≡ over → is_valid_routine low (if over then routine_with (low_parameters core r) 0 (error_block 202 5 ∷ []) else routine_with (low_parameters core r) (frame_of core r routine).locals (all_blocks core mir r id routine)) ≡ true
+    routine_by : (over : Bool) → nat_lt most_charge routine.charge ≡ over → is_valid_routine low (if over then routine_with (low_parameters core r) 0 (error_block 202 5 ∷ []) else routine_with (low_parameters core r) (frame_of core r routine).locals (all_blocks core mir texts r routine)) ≡ true
     routine_by true e = over_valid r fits.parameters
-    routine_by false e = under_valid (lt_false most_charge routine.charge e)
+    routine_by false e = under_valid (ltb-false most_charge routine.charge e)
 
-    pub low_valid : is_valid_routine low (low_routine core mir r id routine) ≡ true
+    pub low_valid : is_valid_routine low (low_routine core mir texts r routine) ≡ true
     low_valid = routine_by (nat_lt most_charge routine.charge) refl
 
   -- ---- routines, from number r on
 
-  pub from_valid : (xs : List Routine) (r id : ℕ) → ((k : ℕ) (x : Routine) → slice_get xs k ≡ Some x → IsFitting core (r + k) x) → behind_routines core r id xs ≤ low.counts.literals → list_all (is_valid_routine low) (routines_from core mir r id xs) ≡ true
-  from_valid [] r id fits less = refl
-  from_valid (x ∷ xs) r id fits less =
+  pub from_valid : (xs : List Routine) (r : ℕ) (texts : List (List ℕ)) → ((k : ℕ) (x : Routine) → slice_get xs k ≡ Some x → IsFitting core (r + k) x) → Every (IsNumbered low texts) (routines_literals core r xs) → list_all (is_valid_routine low) (routines_from core mir texts r xs) ≡ true
+  from_valid [] r texts fits there = refl
+  from_valid (x ∷ xs) r texts fits there =
       let here : r + 0 ≡ r = omega arith in
-      let grows = routines_grow core (r + 1) (behind_blocks core r id x.blocks) xs in
-      let mine = low_valid r id x (subst (λ k. IsFitting core k x) here (fits 0 x refl)) (omega (arith, grows, less)) in
-      let rest = from_valid xs (r + 1) (behind_blocks core r id x.blocks) (λ k y e. let next : r + suc k ≡ r + 1 + k = omega arith in subst (λ j. IsFitting core j y) next (fits (suc k) y e)) less in
-      and_true _ _ mine rest
-    where
-      routines_grow : (core : Core) (r id : ℕ) (xs : List Routine) → id ≤ behind_routines core r id xs
-      routines_grow core r id [] = le_refl id
-      routines_grow core r id (x ∷ xs) =
-          let e = blocks_grow core r id x.blocks in
-          let f = routines_grow core (r + 1) (behind_blocks core r id x.blocks) xs in
-          omega (arith, e, f)
+      let next : suc r ≡ r + 1 = omega arith in
+      let parts = every_split (IsNumbered low texts) (routine_literals core r x) (routines_literals core (suc r) xs) there in
+      let mine = low_valid r texts x (subst (λ k. IsFitting core k x) here (fits 0 x refl)) parts.0 in
+      let rest = from_valid xs (r + 1) texts (λ k y e. let next : r + suc k ≡ r + 1 + k = omega arith in subst (λ j. IsFitting core j y) next (fits (suc k) y e)) (subst (λ n. Every (IsNumbered low texts) (routines_literals core n xs)) next parts.1) in
+      and_from _ _ mine rest

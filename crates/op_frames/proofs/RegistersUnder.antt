@@ -64,7 +64,7 @@ charged_some core v Plain c s = some_words (size_in core v.of) s
 charged_some core v Constant c s = some_words (size_in core v.of) s
 charged_some core v Handler c s = absurd c
 
-held_by : (reference whole named parameter : Bool) → (if reference then AsGiven else if whole || named then InMemory else if parameter then AsGiven else InRegister) ≡ InRegister → whole ≡ false
+pub held_by : (reference whole named parameter : Bool) → (if reference then AsGiven else if whole || named then InMemory else if parameter then AsGiven else InRegister) ≡ InRegister → whole ≡ false
 held_by true whole named parameter e = absurd cc
 held_by false true named parameter e = absurd cc
 held_by false false true parameter e = absurd cc

@@ -1,14 +1,15 @@
 -- Routines whose blocks have their operands in range are valid.
-use Rattle.std.proofs.Common.{◌≡◌, ◌<◌, ◌≤◌, ℕ, zero, suc, ◌+◌, ◌-◌, ◌%◌, ◌^◌, max, Bool, true, ◌&&◌, List, [], ◌∷◌, length, map, nat_eq, nat_le, nat_lt, slice_get, fold, refl, sym, ap, subst, arith, le_refl}
+use Rattle.std.proofs.Common.{◌≡◌, ◌<◌, ◌≤◌, ℕ, zero, suc, ◌+◌, ◌-◌, ◌%◌, ◌^◌, max, true, List, [], ◌∷◌, length, map, nat_eq, slice_get, fold, refl, sym, ap, subst, arith, le_refl, ◌++◌, flat_map}
 use Rattle.std.proofs.Math.Nat.{le-max_left, le-max_right}
-use Rattle.std.proofs.lemmas.Bool.Decides.{nat_tests}
+use Rattle.std.proofs.lemmas.Bool.{and_from, le-leb, lt-ltb}
 use Rattle.std.specs.List.{list_all}
-use Rattle.op_constants.specs.Literals.{literals_in}
+use Rattle.std.proofs.lemmas.List.Concat.{flat_map-cons}
+use Rattle.op_constants.specs.Literals.{block_literals, instruction_literals}
 use Rattle.op_core.specs.declared.program.Core.{Core}
 use Rattle.op_expand.specs.Frames.{frame_of}
 use Rattle.op_expand.specs.Registers.{greatest_in, registers_in, with_block, with_instruction}
-use Rattle.op_expand.specs.Routines.{code_of, behind_code, behind_blocks, blocks_of, error_block, error_blocks, routine_with}
-use Rattle.op_frames.proofs.CodeFine.{CanDo, Ends, ends_behind, code_ends, instruction_fine}
+use Rattle.op_expand.specs.Routines.{code_of, blocks_of, error_block, error_blocks, routine_with}
+use Rattle.op_frames.proofs.CodeFine.{CanDo, Ends, ends_behind, code_ends, instruction_fine, IsNumbered}
 use Rattle.op_frames.proofs.ComputingFine.{joined}
 use Rattle.op_frames.proofs.Fine.{Bounds, AreFine, greatest_below, valid_instruction}
 use Rattle.op_frames.proofs.MovesFine.{HasRuntime}
@@ -27,27 +28,11 @@ use Rattle.op_mir.specs.declared.code.Mir.{Mir}
 use Rattle.op_mir.specs.declared.code.Routine.{Routine}
 use Rattle.op_mir.specs.declared.instruction.Instruction.{Instruction}
 
-lt_true : (a b : ℕ) → a < b → nat_lt a b ≡ true
-lt_true a b p = grind (arith, nat_tests)
+-- ---- literals in two lists, one behind the other
 
-le_true : (a b : ℕ) → a ≤ b → nat_le a b ≡ true
-le_true a b p = grind (arith, nat_tests)
-
-and_true : (a b : Bool) → a ≡ true → b ≡ true → (a && b) ≡ true
-and_true a b p q = cc
-
--- ---- literals are counted on
-
-pub behind_grows : (core : Core) (r id : ℕ) (is : List Instruction) → id ≤ behind_code core r id is
-behind_grows core r id [] = le_refl id
-behind_grows core r id (i ∷ is) = let e = behind_grows core r (id + literals_in core r i) is in omega (arith, e)
-
-pub blocks_grow : (core : Core) (r id : ℕ) (bs : List Block) → id ≤ behind_blocks core r id bs
-blocks_grow core r id [] = le_refl id
-blocks_grow core r id (b ∷ bs) =
-    let e = behind_grows core r id b.code in
-    let f = blocks_grow core r (behind_code core r id b.code) bs in
-    omega (arith, e, f)
+pub every_split : {A : Type 0} (Q : A → Type 0) (xs ys : List A) → Every Q (xs ++ ys) → Every Q xs × Every Q ys
+every_split Q [] ys all = (tt, all)
+every_split Q (x ∷ xs) ys all = let parts = every_split Q xs ys all.1 in ((all.0, parts.0), parts.1)
 
 -- ---- blocks
 
@@ -63,28 +48,28 @@ module _ (m : Bounds) (core : Core) (r : ℕ) (routine : Routine) (n blocks : �
     pub room : (frame_of core r routine).bank.scratch + room_in (view_instruction core r i) ≤ m.registers
     pub can : CanDo m core (frame_of core r routine) i
 
-  code_fine : (id : ℕ) (code : List Instruction) → Every IsGood code → behind_code core r id code ≤ m.low.counts.literals → AreFine m (code_of core mir (frame_of core r routine) r id code)
-  code_fine id [] g less = tt
-  code_fine id (i ∷ others) g less =
-      let grows = behind_grows core r (id + literals_in core r i) others in
+  code_fine : (texts : List (List ℕ)) (code : List Instruction) → Every IsGood code → Every (IsNumbered m.low texts) (flat_map (instruction_literals core r) code) → AreFine m (code_of core mir (frame_of core r routine) texts code)
+  code_fine texts [] g there = tt
+  code_fine texts (i ∷ others) g there =
+      let parts = every_split (IsNumbered m.low texts) (instruction_literals core r i) (flat_map (instruction_literals core r) others) (subst (Every (IsNumbered m.low texts)) (flat_map-cons (instruction_literals core r) i others) there) in
       let here = g.0 in
-      joined m _ _ (instruction_fine m core r routine n blocks is temporaries runtime fewer mir id i here.named here.temps here.room (omega (arith, grows, less)) here.can)
-      (code_fine (id + literals_in core r i) others g.1 less)
+      joined m _ _ (instruction_fine m core r routine n blocks is temporaries runtime fewer mir texts i here.named here.temps here.room parts.0 here.can)
+      (code_fine texts others g.1 parts.1)
 
   -- its instructions are good, and the last one leaves it
   abbrev pub IsGoodBlock : Block → Type 0
   IsGoodBlock b = Every IsGood b.code × Leaves (map (view_instruction core r) b.code)
 
-  pub blocks_fine : (id : ℕ) (front : List LowInstruction) (bs : List Block) → AreFine m front → Every IsGoodBlock bs → behind_blocks core r id bs ≤ m.low.counts.literals → Every (IsFineBlock m) (blocks_of core mir (frame_of core r routine) r id front bs)
-  blocks_fine id front [] f g less = tt
-  blocks_fine id front (b ∷ bs) f g less =
-      let grows = blocks_grow core r (behind_code core r id b.code) bs in
-      let code = joined m front _ f (code_fine id b.code g.0.0 (omega (arith, grows, less))) in
-      ((code, ends_behind front _ (code_ends core mir (frame_of core r routine) r id b.code g.0.1)), blocks_fine (behind_code core r id b.code) [] bs tt g.1 less)
+  pub blocks_fine : (texts : List (List ℕ)) (front : List LowInstruction) (bs : List Block) → AreFine m front → Every IsGoodBlock bs → Every (IsNumbered m.low texts) (flat_map (block_literals core r) bs) → Every (IsFineBlock m) (blocks_of core mir (frame_of core r routine) texts front bs)
+  blocks_fine texts front [] f g there = tt
+  blocks_fine texts front (b ∷ bs) f g there =
+      let parts = every_split (IsNumbered m.low texts) (block_literals core r b) (flat_map (block_literals core r) bs) (subst (Every (IsNumbered m.low texts)) (flat_map-cons (block_literals core r) b bs) there) in
+      let code = joined m front _ f (code_fine texts b.code g.0.0 parts.0) in
+      ((code, ends_behind front _ (code_ends core mir (frame_of core r routine) r texts b.code g.0.1)), blocks_fine texts [] bs tt g.1 parts.1)
 
-  pub blocks_count : (id : ℕ) (front : List LowInstruction) (bs : List Block) → length (blocks_of core mir (frame_of core r routine) r id front bs) ≡ length bs
-  blocks_count id front [] = refl
-  blocks_count id front (b ∷ bs) = ap suc (blocks_count (behind_code core r id b.code) [] bs)
+  pub blocks_count : (texts : List (List ℕ)) (front : List LowInstruction) (bs : List Block) → length (blocks_of core mir (frame_of core r routine) texts front bs) ≡ length bs
+  blocks_count texts front [] = refl
+  blocks_count texts front (b ∷ bs) = ap suc (blocks_count texts [] bs)
 
 -- ---- the blocks of errors
 
@@ -93,7 +78,7 @@ unfolding has_symbol leaves
 error_fine m error id small there two =
     let zero : 0 < m.registers = omega (arith, two) in
     let one : 1 < m.registers = omega (arith, two) in
-    (((zero, lt_true id m.low.counts.literals there), ((one, omega arith), ((zero, one), ((zero, small), (zero, tt))))), refl)
+    (((zero, lt-ltb id m.low.counts.literals there), ((one, omega arith), ((zero, one), ((zero, small), (zero, tt))))), refl)
 
 pub stack_fine : (m : Bounds) → 7 ≤ m.low.counts.literals → 2 ≤ m.registers → Every (IsFineBlock m) (error_block 202 5 ∷ [])
 stack_fine m enough two = (error_fine m 202 5 (omega arith) (omega (arith, enough)) two, tt)
@@ -158,12 +143,12 @@ module _ (m : Bounds) (routine : LowRoutine) (count : length routine.blocks ≡ 
   valid_code top [] t g f = refl
   valid_code top (i ∷ code) t g f =
       let here : greatest_in i < routine.registers = omega (arith, t, g.0) in
-      and_true _ _ (valid_instruction m routine count locals i here f.0) (valid_code top code t g.1 f.1)
+      and_from _ _ (valid_instruction m routine count locals i here f.0) (valid_code top code t g.1 f.1)
 
   valid_blocks : (top : ℕ) (bs : List LowBlock) → top < routine.registers → Every (λ b. Every (λ i. greatest_in i ≤ top) b.code) bs → Every (IsFineBlock m) bs → list_all (is_valid_block m.low routine) bs ≡ true
   unfolding is_valid_block
   valid_blocks top [] t g f = refl
-  valid_blocks top (b ∷ bs) t g f = and_true _ _ (and_true _ _ (ends_code b.code f.0.1) (valid_code top b.code t g.0 f.0.0)) (valid_blocks top bs t g.1 f.1)
+  valid_blocks top (b ∷ bs) t g f = and_from _ _ (and_from _ _ (ends_code b.code f.0.1) (valid_code top b.code t g.0 f.0.0)) (valid_blocks top bs t g.1 f.1)
 
 -- a routine with so many registers as it names
 pub valid_routine : (m : Bounds) (parameters : ℕ) (bs : List LowBlock) → length bs ≡ m.blocks → Every (IsFineBlock m) bs → 0 < m.registers → parameters ≤ m.registers → m.registers ≤ most_registers → m.locals ≤ most_locals → m.locals % 4 ≡ 0 → 0 < length bs → is_valid_routine m.low (routine_with parameters m.locals bs) ≡ true
@@ -176,5 +161,5 @@ valid_routine m parameters bs count f some few registers locals whole there =
     let low_parameters : parameters ≤ registers_in parameters bs = le-max_left parameters (top + 1) in
     let size = registers_under m parameters bs some few f in
     let even : nat_eq (m.locals % 4) 0 ≡ true = ap (λ k. nat_eq k 0) whole in
-    and_true _ _ (and_true _ _ (and_true _ _ (and_true _ _ (and_true _ _ (le_true _ _ low_parameters) (le_true _ _ (omega (arith, size, registers)))) (le_true _ _ locals)) even) (lt_true _ _ there))
+    and_from _ _ (and_from _ _ (and_from _ _ (and_from _ _ (and_from _ _ (le-leb _ _ low_parameters) (le-leb _ _ (omega (arith, size, registers)))) (le-leb _ _ locals)) even) (lt-ltb _ _ there))
     (valid_blocks m (routine_with parameters m.locals bs) count refl top bs less named f)

@@ -1,8 +1,9 @@
 -- What a sound program says of the sizes of its types.
-use Rattle.std.proofs.Common.{◌≡◌, ◌<◌, ◌≤◌, ℕ, zero, suc, Bool, true, false, List, [], ◌∷◌, length, Option, Some, None, slice_get, unwrap_or, refl, sym, ap, ◌∙◌, subst, arith, le_refl, true≢false}
+use Rattle.std.proofs.Common.{◌≡◌, ◌<◌, ◌≤◌, ℕ, Bool, true, false, Option, Some, None, slice_get, unwrap_or, refl, sym, ap, ◌∙◌, subst, arith, le_refl, true≢false}
 use Rattle.std.proofs.lemmas.Option.{slice_get_within}
 use Rattle.op_constants.specs.Offsets.{size_in}
 use Rattle.op_constants.specs.Shapes.{is_composite}
+use Rattle.op_core.proofs.Rows.{there_is}
 use Rattle.op_core.specs.Sizes.{KeepsExtents, extent_by, extent_of, integer_size, plain, type_at}
 use Rattle.op_core.specs.Sound.{IsSound}
 use Rattle.op_core.specs.declared.ids.TypeId.{TypeId}
@@ -15,11 +16,6 @@ use Rattle.op_core.specs.declared.types.IntegerKind.TheVariants.{Signed8, Unsign
 use Rattle.op_meaning.specs.Charge.{is_open}
 use Rattle.op_meaning.specs.Shapes.{shape_by, shape_of}
 
-row_there : {A : Type 0} (xs : List A) (k : ℕ) → k < length xs → (x : A) × (slice_get xs k ≡ Some x)
-row_there [] k less = absurd (omega arith)
-row_there (x ∷ xs) zero less = (x, refl)
-row_there (x ∷ xs) (suc k) less = let less' : suc k < suc (length xs) = less in row_there xs k (omega (arith, less'))
-
 module _ (core : Core) (keeps : KeepsExtents core) where
   -- a type that is there, or 4 bytes
   size_by : (P : ℕ → Type 0) (of : TypeId) → P 4 → ((t : CoreType) → slice_get core.types of.0 ≡ Some t → P (size_in core of)) → P (size_in core of)
@@ -29,7 +25,7 @@ module _ (core : Core) (keeps : KeepsExtents core) where
       by None e = subst (λ o. P (unwrap_or o (plain 4 false)).size) (sym e) four
       by (Some x) e =
           let within = slice_get_within core.extents of.0 x e in
-          let there = row_there core.types of.0 (subst (λ n. of.0 < n) keeps.count within) in
+          let there = there_is core.types of.0 (subst (λ n. of.0 < n) keeps.count within) in
           rows there.0 there.1
 
   kept_size : (of : TypeId) (t : CoreType) → slice_get core.types of.0 ≡ Some t → size_in core of ≡ (extent_by (extent_of core) core (Some t)).size

@@ -16,11 +16,11 @@ use Rattle.op_core.specs.declared.statement.Label.{Label}
 use Rattle.op_core.specs.declared.types.CoreType.{CoreType}
 use Rattle.op_core.specs.declared.types.CoreType.TheVariants.{Array, Boolean, Char, Set}
 use Rattle.op_core.specs.declared.types.IntegerKind.TheVariants.{Signed32}
-use Rattle.op_frames.proofs.ExpressionsWithin.{IsFound, IsNow, made_both, made_acts, expression_some, path_short, steps_more, loaded_well, acts_well, converted_well, find_well, make_well}
+use Rattle.op_frames.proofs.ExpressionsWithin.{IsFound, IsNow, made_both, made_acts, expression_some, path_short, steps_more, loaded_well, acts_well, converted_well, find_well, make_well, valued_node}
 use Rattle.op_frames.specs.Counted.{IsCounted, IsBare, IsCountedAmount, IsCountedItem, AreCountedItems, IsCountedBuiltIn, IsCountedStatement, AreCountedStatements, AreCountedBranches, AreCountedLabels}
 use Rattle.op_frames.specs.Made.{Every, AreMade, IsMade, AreMadeTurns, AreMadeCases, ArmsOf}
 use Rattle.op_frames.specs.Within.{StepsBelow, ActionBelow, IsWithin, labels_among}
-use Rattle.op_meaning.specs.Charge.{Weight, nodes_of, valued, expression_weight, item_weight, items_weight, built_in_weight, labels_weight, counter_weight, statement_weight, statements_weight, branches_weight}
+use Rattle.op_meaning.specs.Charge.{Weight, nodes_of, expression_weight, item_weight, items_weight, built_in_weight, labels_weight, counter_weight, statement_weight, statements_weight, branches_weight}
 use Rattle.op_meaning.specs.Actions.{Action, constant, load, store, copy, arithmetic, compare, check, single as lone, combine, contains, write_number, write_truth, write_char, write_text}
 use Rattle.op_meaning.specs.Expressions.{Here, past, past_whole, Env, Now, ready, at_path, a_text, Found, found, whole_path, path_of, own, then_acts, low_in, high_in, counted_of, element_step, converted, find, make}
 use Rattle.op_meaning.specs.Items.{act, choose, select, loop, body_first, protect, leave, halt, Items, none, then_do, Turns, turns, Cases, no_cases, cases, ◌&◌, only, acts}
@@ -33,13 +33,9 @@ use Rattle.op_tree.specs.declared.operator.Operator.TheVariants.{Add, Subtract}
 use Rattle.op_tree.specs.declared.statement.Direction.{Direction}
 use Rattle.op_tree.specs.declared.statement.Direction.TheVariants.{To, Downto}
 
-valued_one : (core : Core) (of : TypeId) → nodes_of (valued core of) ≡ 1
-unfolding valued
-valued_one core of = refl
-
-counter_one : (core : Core) (v : Option Variable) → nodes_of (counter_weight core v) ≡ 1
+pub counter_one : (core : Core) (v : Option Variable) → nodes_of (counter_weight core v) ≡ 1
 counter_one core None = refl
-counter_one core (Some v) = valued_one core v.of
+counter_one core (Some v) = valued_node core v.of
 
 module _ (blocks top room : ℕ) where
   abbrev pub IsItems : Items → Type 0

@@ -1,11 +1,15 @@
 -- The temporaries of record and array types that a routine names take no more room than a list that has all of them.
 use Rattle.std.proofs.Common.{◌≡◌, ◌<◌, ◌≤◌, ℕ, zero, suc, ◌+◌, ◌*◌, Bool, true, false, ◌&&◌, ◌||◌, List, [], ◌∷◌, ◌++◌, length, map, fold, nat_eq, refl, sym, ap, ◌∙◌, subst, arith, true≢false, if◌then◌else◌}
+use Rattle.std.proofs.lemmas.Bool.{eqb-true, or_from, or_left, or_right}
 use Rattle.std.proofs.lemmas.Bool.Decides.{nat_tests}
 use Rattle.std.proofs.lemmas.List.Sums.{sum_by-cons}
+use Rattle.std.specs.Cmp.{first_so}
 use Rattle.std.specs.List.{list_any, sum_by}
+use Rattle.op_base.proofs.Tests.{or_second}
 use Rattle.op_constants.specs.Offsets.{size_in}
 use Rattle.op_core.specs.declared.ids.TypeId.{TypeId}
 use Rattle.op_core.specs.declared.program.Core.{Core}
+use Rattle.op_expand.proofs.RoomLemmas.{one_with_both}
 use Rattle.op_expand.specs.Homes.{is_one_root, roots_of, rounded, size_of_root, with_root, with_temporary, with_place, with_given, with_receiver, with_call, with_action, with_instruction, with_block}
 use Rattle.op_frames.proofs.Lowered.{code_is}
 use Rattle.op_frames.specs.Made.{AreMade, Every, IsCode}
@@ -29,47 +33,18 @@ use Rattle.op_mir.specs.declared.path.Root.TheVariants.{Global, Local, Through, 
 
 -- ---- tests
 
-and_first : (a b : Bool) → (a && b) ≡ true → a ≡ true
-and_first true b e = refl
-and_first false b e = e
+pub none_first : (a b : Bool) → (a || b) ≡ false → a ≡ false
+none_first true b e = e
+none_first false b e = refl
 
-and_second : (a b : Bool) → (a && b) ≡ true → b ≡ true
-and_second true b e = e
-and_second false b e = absurd (true≢false (sym e))
+pub none_second : (a b : Bool) → (a || b) ≡ false → b ≡ false
+none_second true b e = absurd (true≢false e)
+none_second false b e = e
 
-and_both : (a b : Bool) → a ≡ true → b ≡ true → (a && b) ≡ true
-and_both true true p q = refl
-and_both true false p q = q
-and_both false b p q = p
-
-or_first : (a b : Bool) → (a || b) ≡ false → a ≡ false
-or_first true b e = e
-or_first false b e = refl
-
-or_second : (a b : Bool) → (a || b) ≡ false → b ≡ false
-or_second true b e = absurd (true≢false e)
-or_second false b e = e
-
-or_late : (a b : Bool) → a ≡ false → (a || b) ≡ true → b ≡ true
-or_late true b p e = absurd (true≢false p)
-or_late false b p e = e
-
-or_front : (a b : Bool) → a ≡ true → (a || b) ≡ true
-or_front true b p = refl
-or_front false b p = absurd (true≢false (sym p))
-
-or_back : (a b : Bool) → b ≡ true → (a || b) ≡ true
-or_back true b p = refl
-or_back false b p = p
-
-or_none : (a b : Bool) → a ≡ false → b ≡ false → (a || b) ≡ false
-or_none true b p q = p
-or_none false b p q = q
-
-eq_tells : (a b : ℕ) → nat_eq a b ≡ true → a ≡ b
+pub eq_tells : (a b : ℕ) → nat_eq a b ≡ true → a ≡ b
 eq_tells a b e = grind (arith, nat_tests)
 
-eq_true : (a b : ℕ) → a ≡ b → nat_eq a b ≡ true
+pub eq_true : (a b : ℕ) → a ≡ b → nat_eq a b ≡ true
 eq_true a b p = grind (arith, nat_tests)
 
 eq_turned : (a b : ℕ) → nat_eq a b ≡ nat_eq b a
@@ -103,18 +78,7 @@ one_size : (core : Core) (of : TypeId) (n : ℕ) (s : Root) → is_one_root (Tem
 one_size core of n (Local w) e = absurd (true≢false (sym e))
 one_size core of n (Global w) e = absurd (true≢false (sym e))
 one_size core of n (Through w) e = absurd (true≢false (sym e))
-one_size core of n (Temporary type m) e = ap (λ k. rounded (size_in core (record { 0 = k }))) (eq_tells of.0 type.0 (and_first (nat_eq of.0 type.0) (nat_eq n m) e))
-
-joined_roots : (of type : TypeId) (n m : ℕ) (s : Root) → is_one_root (Temporary of n) s ≡ true → is_one_root (Temporary type m) s ≡ true → is_one_root (Temporary of n) (Temporary type m) ≡ true
-joined_roots of type n m (Local w) e f = absurd (true≢false (sym e))
-joined_roots of type n m (Global w) e f = absurd (true≢false (sym e))
-joined_roots of type n m (Through w) e f = absurd (true≢false (sym e))
-joined_roots of type n m (Temporary t k) e f =
-    let a = eq_tells of.0 t.0 (and_first (nat_eq of.0 t.0) (nat_eq n k) e) in
-    let b = eq_tells type.0 t.0 (and_first (nat_eq type.0 t.0) (nat_eq m k) f) in
-    let c = eq_tells n k (and_second (nat_eq of.0 t.0) (nat_eq n k) e) in
-    let d = eq_tells m k (and_second (nat_eq type.0 t.0) (nat_eq m k) f) in
-    and_both (nat_eq of.0 type.0) (nat_eq n m) (eq_true of.0 type.0 (a ∙ sym b)) (eq_true n m (c ∙ sym d))
+one_size core of n (Temporary type m) e = ap (λ k. rounded (size_in core (record { 0 = k }))) (eqb-true of.0 type.0 (first_so (nat_eq of.0 type.0) (nat_eq n m) e))
 
 -- ---- a list without the first root that is one with a root
 
@@ -134,7 +98,7 @@ module _ (core : Core) where
           let goal : sum_by (size_of_root core) xs + size_of_root core (Temporary of n) ≤ sum_by (size_of_root core) (x ∷ xs) = omega (arith, s, sum_by-cons (size_of_root core) x xs) in
           rw o goal
       by false o more =
-          let rest = more (or_late (is_one_root (Temporary of n) x) (list_any (is_one_root (Temporary of n)) xs) o e) in
+          let rest = more (or_second (is_one_root (Temporary of n) x) (list_any (is_one_root (Temporary of n)) xs) o e) in
           let goal : sum_by (size_of_root core) (x ∷ remove_from (Temporary of n) xs) + size_of_root core (Temporary of n) ≤ sum_by (size_of_root core) (x ∷ xs) = omega (arith, rest, sum_by-cons (size_of_root core) x xs, sum_by-cons (size_of_root core) x (remove_from (Temporary of n) xs)) in
           rw o goal
 
@@ -144,16 +108,16 @@ module _ (core : Core) where
   remove_covers of type n m (x ∷ xs) apart e = by (is_one_root (Temporary of n) x) (is_one_root (Temporary type m) x) refl refl (remove_covers of type n m xs apart)
     where
       by : (one other : Bool) → is_one_root (Temporary of n) x ≡ one → is_one_root (Temporary type m) x ≡ other → (list_any (is_one_root (Temporary type m)) xs ≡ true → list_any (is_one_root (Temporary type m)) (remove_from (Temporary of n) xs) ≡ true) → list_any (is_one_root (Temporary type m)) (remove_from (Temporary of n) (x ∷ xs)) ≡ true
-      by true true o p more = absurd (true≢false (sym (joined_roots of type n m x o p) ∙ apart))
+      by true true o p more = absurd (true≢false (sym (one_with_both of type n m x o p) ∙ apart))
       by true false o p more =
-          let rest = or_late (is_one_root (Temporary type m) x) (list_any (is_one_root (Temporary type m)) xs) p e in
+          let rest = or_second (is_one_root (Temporary type m) x) (list_any (is_one_root (Temporary type m)) xs) p e in
           rw o rest
       by false true o p more =
-          let goal = or_front (is_one_root (Temporary type m) x) (list_any (is_one_root (Temporary type m)) (remove_from (Temporary of n) xs)) p in
+          let goal = or_left (is_one_root (Temporary type m) x) (list_any (is_one_root (Temporary type m)) (remove_from (Temporary of n) xs)) p in
           rw o goal
       by false false o p more =
-          let rest = more (or_late (is_one_root (Temporary type m) x) (list_any (is_one_root (Temporary type m)) xs) p e) in
-          let goal = or_back (is_one_root (Temporary type m) x) (list_any (is_one_root (Temporary type m)) (remove_from (Temporary of n) xs)) rest in
+          let rest = more (or_second (is_one_root (Temporary type m) x) (list_any (is_one_root (Temporary type m)) xs) p e) in
+          let goal = or_right (is_one_root (Temporary type m) x) (list_any (is_one_root (Temporary type m)) (remove_from (Temporary of n) xs)) rest in
           rw o goal
 
   -- ---- roots, each once
@@ -174,12 +138,12 @@ module _ (core : Core) where
   all_covered : (of : TypeId) (n : ℕ) (wholes rs : List Root) → list_any (is_one_root (Temporary of n)) rs ≡ false → Every (IsCovered wholes) rs → Every (IsCovered (remove_from (Temporary of n) wholes)) rs
   all_covered of n wholes [] apart c = tt
   all_covered of n wholes (r ∷ rs) apart c =
-      (still_covered of n wholes r (or_first (is_one_root (Temporary of n) r) (list_any (is_one_root (Temporary of n)) rs) apart) c.0, all_covered of n wholes rs (or_second (is_one_root (Temporary of n) r) (list_any (is_one_root (Temporary of n)) rs) apart) c.1)
+      (still_covered of n wholes r (none_first (is_one_root (Temporary of n) r) (list_any (is_one_root (Temporary of n)) rs) apart) c.0, all_covered of n wholes rs (none_second (is_one_root (Temporary of n) r) (list_any (is_one_root (Temporary of n)) rs) apart) c.1)
 
   sum_empty : (r : Root) (rs : List Root) (k : ℕ) → size_of_root core r ≡ 0 → sum_by (size_of_root core) rs ≤ k → sum_by (size_of_root core) (r ∷ rs) ≤ k
   sum_empty r rs k nothing less = let e = sum_by-cons (size_of_root core) r rs in omega (arith, e, nothing, less)
 
-  sum_covered : (rs wholes : List Root) → AreApart rs → Every (IsCovered wholes) rs → sum_by (size_of_root core) rs ≤ sum_by (size_of_root core) wholes
+  pub sum_covered : (rs wholes : List Root) → AreApart rs → Every (IsCovered wholes) rs → sum_by (size_of_root core) rs ≤ sum_by (size_of_root core) wholes
   sum_covered [] wholes a c = let e : 0 ≤ sum_by (size_of_root core) wholes = omega arith in e
   sum_covered (Global v ∷ rs) wholes a c = sum_empty (Global v) rs _ refl (sum_covered rs wholes a.1 c.1)
   sum_covered (Local v ∷ rs) wholes a c = sum_empty (Local v) rs _ refl (sum_covered rs wholes a.1 c.1)
@@ -196,14 +160,14 @@ module _ (core : Core) where
   IsGood wholes roots = AreApart roots × Every (IsCovered wholes) roots
 
   any_end : (r root : Root) (rs : List Root) → list_any (is_one_root r) rs ≡ false → is_one_root r root ≡ false → list_any (is_one_root r) (rs ++ root ∷ []) ≡ false
-  any_end r root [] p q = or_none (is_one_root r root) false q refl
-  any_end r root (x ∷ rs) p q = or_none (is_one_root r x) (list_any (is_one_root r) (rs ++ root ∷ [])) (or_first (is_one_root r x) (list_any (is_one_root r) rs) p) (any_end r root rs (or_second (is_one_root r x) (list_any (is_one_root r) rs) p) q)
+  any_end r root [] p q = or_from (is_one_root r root) false q refl
+  any_end r root (x ∷ rs) p q = or_from (is_one_root r x) (list_any (is_one_root r) (rs ++ root ∷ [])) (none_first (is_one_root r x) (list_any (is_one_root r) rs) p) (any_end r root rs (none_second (is_one_root r x) (list_any (is_one_root r) rs) p) q)
 
   apart_end : (root : Root) (rs : List Root) → AreApart rs → list_any (is_one_root root) rs ≡ false → AreApart (rs ++ root ∷ [])
   apart_end root [] a n = (refl, tt)
   apart_end root (x ∷ rs) a n =
-      let here = or_first (is_one_root root x) (list_any (is_one_root root) rs) n in
-      (any_end x root rs a.0 (turned x root ∙ here), apart_end root rs a.1 (or_second (is_one_root root x) (list_any (is_one_root root) rs) n))
+      let here = none_first (is_one_root root x) (list_any (is_one_root root) rs) n in
+      (any_end x root rs a.0 (turned x root ∙ here), apart_end root rs a.1 (none_second (is_one_root root x) (list_any (is_one_root root) rs) n))
 
   covered_end : (wholes : List Root) (root : Root) (rs : List Root) → Every (IsCovered wholes) rs → IsCovered wholes root → Every (IsCovered wholes) (rs ++ root ∷ [])
   covered_end wholes root [] c r = (r, tt)
@@ -271,13 +235,17 @@ module _ (core : Core) where
   code_good r wholes rs [] g c = g
   code_good r wholes rs (i ∷ code) g c = code_good r wholes (with_instruction rs i) code (instruction_good r wholes rs i g c.0) c.1
 
-  blocks_good : (r : ℕ) (wholes rs : List Root) (bs : List Block) → IsGood wholes rs → Every (IsCode (AreWholesIn wholes)) (map (view_block core r) bs) → IsGood wholes (fold with_block rs bs)
+  pub blocks_good : (r : ℕ) (wholes rs : List Root) (bs : List Block) → IsGood wholes rs → Every (Every (AreWholesIn wholes)) (map (view_block core r) bs) → IsGood wholes (fold with_block rs bs)
   blocks_good r wholes rs [] g c = g
-  blocks_good r wholes rs (b ∷ bs) g c = let code = c.0 in blocks_good r wholes (with_block rs b) bs (code_good r wholes rs b.code g code.each) c.1
+  blocks_good r wholes rs (b ∷ bs) g c = blocks_good r wholes (with_block rs b) bs (code_good r wholes rs b.code g c.0) c.1
+
+  all_each : (Q : Instr → Type 0) (codes : List (List Instr)) → Every (IsCode Q) codes → Every (Every Q) codes
+  all_each Q [] c = tt
+  all_each Q (code ∷ codes) c = let here = c.0 in (here.each, all_each Q codes c.1)
 
   -- of a routine whose items name no others
   pub wholes_small : (stack r : ℕ) (routine : Routine) (wholes : List Root) → IsRoutine core r routine → AreMade (AreWholesIn wholes) (length routine.blocks) (items_of (program_of core stack) r) → sum_by (size_of_root core) (roots_of routine) ≤ sum_by (size_of_root core) wholes
   wholes_small stack r routine wholes is made =
       let code = code_is (AreWholesIn wholes) core stack r routine (λ k some less. tt) tt is made in
-      let good = blocks_good r wholes [] routine.blocks (tt, tt) code in
+      let good = blocks_good r wholes [] routine.blocks (tt, tt) (all_each (AreWholesIn wholes) (map (view_block core r) routine.blocks) code) in
       sum_covered (roots_of routine) wholes good.0 good.1

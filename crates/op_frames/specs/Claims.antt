@@ -24,7 +24,7 @@ use Rattle.op_frames.specs.Named.{IsNamed}
 use Rattle.op_frames.specs.Wholes.{AreWholesIn}
 use Rattle.op_image.specs.Building.{is_buildable, is_laid_out}
 use Rattle.op_layout.specs.Places.{layout_of}
-use Rattle.op_link.specs.Memory.{globals_size}
+use Rattle.op_link.specs.Memory.{variable_size}
 use Rattle.op_low.specs.Valid.{is_valid, most_registers}
 use Rattle.op_lower.specs.Lowers.{IsRoutine}
 use Rattle.op_lower.specs.Seen.{seen_blocks}
@@ -32,6 +32,8 @@ use Rattle.op_meaning.specs.Charge.{charge_of, is_open, statements_weight, words
 use Rattle.op_meaning.specs.Frames.{program_of}
 use Rattle.op_meaning.specs.Shapes.{shape_of, variables_of}
 use Rattle.op_mir.specs.Code.{items_of}
+use Rattle.op_mir.specs.FrameNeed.{frame_need}
+use Rattle.op_mir.specs.Valid.{is_valid_routine}
 use Rattle.op_mir.specs.declared.code.Mir.{Mir}
 use Rattle.op_mir.specs.declared.code.Routine.{Routine}
 use Rattle.op_mir.specs.declared.path.Root.{Root}
@@ -44,13 +46,13 @@ CodeIsValid = (core : Core) (mir : Mir) (stack : ℕ) → AreFitting core mir �
 abbrev pub LiteralsAreLaidOut : Type 0
 LiteralsAreLaidOut = (core : Core) (mir : Mir) (stack : ℕ) → is_laid_out (low_of core mir stack) (layout_of (literals_of core mir)) ≡ true
 
--- so it may be built, where its global variables have room
+-- so it may be built, where its global variables have no more bytes than a program may have in them
 abbrev pub CodeIsBuildable : Type 0
-CodeIsBuildable = (core : Core) (mir : Mir) (stack : ℕ) → AreFitting core mir → globals_size (globals_in core) ≤ 15728636 → is_buildable (low_of core mir stack) (layout_of (literals_of core mir)) ≡ true
+CodeIsBuildable = (core : Core) (mir : Mir) (stack : ℕ) → AreFitting core mir → sum_by variable_size (globals_in core) ≤ 8388608 → is_buildable (low_of core mir stack) (layout_of (literals_of core mir)) ≡ true
 
--- global variables take at most three bytes more each than their values
+-- which is so of a sound program
 abbrev pub GlobalsHaveRoom : Type 0
-GlobalsHaveRoom = (core : Core) → IsSound core → length core.globals ≤ 2446676 → globals_size (globals_in core) ≤ 15728636
+GlobalsHaveRoom = (core : Core) → IsSound core → sum_by variable_size (globals_in core) ≤ 8388608
 
 -- the code of items names what is there, where that of each item does
 abbrev pub CodeIsMade : Type 0
@@ -93,3 +95,9 @@ pub record AreSized (core : Core) : Type 0 where
 
 abbrev pub SizesAreSound : Type 0
 SizesAreSound = (core : Core) → IsSound core → AreSized core
+
+-- The frame of a routine takes no more bytes than its managed code is said to need, where that is valid.
+abbrev pub FramesAreNeeded : Type 0
+FramesAreNeeded =
+    (core : Core) (mir : Mir) (r : ℕ) (routine : Routine) → IsSound core → is_valid_routine core mir (variables_of core r) routine ≡ true
+    → (frame_of core r routine).locals + 4 * (registers_of_routine core r routine + 1) ≤ frame_need core r routine

@@ -23,13 +23,14 @@ use Rattle.op_lower.specs.Seen.{seen_blocks}
 use Rattle.op_lower.specs.Temporaries.{in_blocks, most_of}
 use Rattle.op_meaning.specs.Shapes.{is_reference, shape_of, type_of_local, variables_of}
 use Rattle.op_mir.specs.View.{view_instruction}
-use Rattle.op_mir.specs.declared.action.Action.TheVariants.{BeginWith}
+use Rattle.op_mir.specs.declared.action.Action.{Action}
+use Rattle.op_mir.specs.declared.action.Action.TheVariants.{Constant, Load, Store, Copy, Look, BeginWith, Pick, Compute, Write, WriteText}
 use Rattle.op_mir.specs.declared.code.Block.{Block}
 use Rattle.op_mir.specs.declared.code.Mir.{Mir}
 use Rattle.op_mir.specs.declared.code.Routine.{Routine}
 use Rattle.op_mir.specs.declared.ids.LocalId.{LocalId}
 use Rattle.op_mir.specs.declared.instruction.Instruction.{Instruction}
-use Rattle.op_mir.specs.declared.instruction.Instruction.TheVariants.{Act}
+use Rattle.op_mir.specs.declared.instruction.Instruction.TheVariants.{Act, Call, Jump, When, Unless, Switch, Dispatch, MakeDue, Stop, Return}
 
 -- ---- scratch registers
 
@@ -48,9 +49,29 @@ begins_with_one core r frame v =
     if is_composite (shape_of core (type_of_local core r v.0)) then list_any is_stored (take (parameters_of core r) frame.homes)
     else is_held (home_at frame.homes v)
 
+abbrev begin_of_action : Core → ℕ → Frame → Action → ℕ
+begin_of_action core r frame (Constant to n) = 0
+begin_of_action core r frame (Load to kind from) = 0
+begin_of_action core r frame (Store to kind from) = 0
+begin_of_action core r frame (Copy of to from) = 0
+begin_of_action core r frame (Look at) = 0
+begin_of_action core r frame (BeginWith v) = if begins_with_one core r frame v then 1 else 2
+begin_of_action core r frame (Pick to text index) = 0
+begin_of_action core r frame (Compute c) = 0
+begin_of_action core r frame (Write w) = 0
+begin_of_action core r frame (WriteText text width) = 0
+
 unfoldable pub begin_room : Core → ℕ → Frame → Instruction → ℕ
-begin_room core r frame (Act (BeginWith v) landing) = if begins_with_one core r frame v then 1 else 2
-begin_room core r frame _ = 0
+begin_room core r frame (Act a landing) = begin_of_action core r frame a
+begin_room core r frame (Call id call) = 0
+begin_room core r frame (Jump block) = 0
+begin_room core r frame (When t block) = 0
+begin_room core r frame (Unless t block) = 0
+begin_room core r frame (Switch t arms) = 0
+begin_room core r frame (Dispatch t block) = 0
+begin_room core r frame (MakeDue f) = 0
+begin_room core r frame (Stop t) = 0
+begin_room core r frame Return = 0
 
 abbrev pub begin_of_block : Core → ℕ → Frame → Block → ℕ
 begin_of_block core r frame b = most_of (begin_room core r frame) b.code

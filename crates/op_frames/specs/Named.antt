@@ -8,7 +8,7 @@ use Rattle.op_core.specs.declared.program.Core.{Core}
 use Rattle.op_core.specs.declared.statement.Label.{Label}
 use Rattle.op_expand.specs.Frames.{parameters_of}
 use Rattle.op_frames.specs.Made.{Every}
-use Rattle.op_meaning.specs.Actions.{Action, constant, load, store, copy, look, begin_with, pick, neighbour, check_set, write_text}
+use Rattle.op_meaning.specs.Actions.{Action, constant, load, store, copy, look, begin_with, pick, arithmetic, compare, negate, complement, invert, absolute, odd, upper, low_bits, check, neighbour, single, span, combine, contains, check_set, write_number, write_truth, write_char, write_text}
 use Rattle.op_meaning.specs.Items.{Given, by_value, by_reference, by_place, by_copy, Receiver, nowhere, to_temp, to_place}
 use Rattle.op_meaning.specs.Shapes.{shape_of}
 use Rattle.op_meaning.specs.Paths.{Path, Root, in_global, in_local, through, in_temporary, Step, field, element}
@@ -47,10 +47,26 @@ IsNamedAction core (copy of to from) = IsNamedPath core to × IsNamedPath core f
 IsNamedAction core (look at) = IsNamedPath core at
 IsNamedAction core (begin_with v of value) = is_composite (shape_of core of) ≡ false → FitsSigned w32 (first_number value)
 IsNamedAction core (pick to text index) = length text < 2 ^ 32
+IsNamedAction core (arithmetic o checked to a b) = Unit {0}
+IsNamedAction core (compare o to a b) = Unit {0}
+IsNamedAction core (negate checked to a) = Unit {0}
+IsNamedAction core (complement to a) = Unit {0}
+IsNamedAction core (invert to a) = Unit {0}
+IsNamedAction core (absolute checked to a) = Unit {0}
+IsNamedAction core (odd to a) = Unit {0}
+IsNamedAction core (upper to a) = Unit {0}
+IsNamedAction core (low_bits kind to a) = Unit {0}
+IsNamedAction core (check low high to a) = Unit {0}
 IsNamedAction core (neighbour distance low high to from) = FitsSigned w32 distance
+IsNamedAction core (single to a) = Unit {0}
+IsNamedAction core (span to a b) = Unit {0}
+IsNamedAction core (combine o to a b) = Unit {0}
+IsNamedAction core (contains to a b) = Unit {0}
 IsNamedAction core (check_set all to from) = FitsSigned w32 (int_bit_not w32 all)
+IsNamedAction core (write_number from width) = Unit {0}
+IsNamedAction core (write_truth from width) = Unit {0}
+IsNamedAction core (write_char from width) = Unit {0}
 IsNamedAction core (write_text text width) = length text < 2 ^ 32
-IsNamedAction core _ = Unit {0}
 
 -- ---- instructions
 

@@ -1,6 +1,6 @@
 -- How many scratch registers the low code of an instruction takes at most.
 use Rattle.std.specs.Prelude.{ℕ, ◌+◌, ◌*◌, List, [], ◌∷◌, length}
-use Rattle.op_meaning.specs.Actions.{Action, constant, load, store, copy, look, begin_with, write_number, write_truth, write_char}
+use Rattle.op_meaning.specs.Actions.{Action, constant, load, store, copy, look, begin_with, pick, arithmetic, compare, negate, complement, invert, absolute, odd, upper, low_bits, check, neighbour, single, span, combine, contains, check_set, write_number, write_truth, write_char, write_text}
 use Rattle.op_meaning.specs.Items.{Given, by_value, by_reference, by_place, by_copy, Receiver, nowhere, to_temp, to_place}
 use Rattle.op_meaning.specs.Paths.{Path}
 use Rattle.op_mir.specs.Code.{Instr, do_act, do_call, jump, when, unless, switch, dispatch, make_due, stop, ret}
@@ -17,10 +17,27 @@ action_room (store to kind from) = path_room to
 action_room (copy of to from) = path_room from + path_room to + 1
 action_room (look at) = path_room at + 1
 action_room (begin_with v of value) = 0
+action_room (pick to text index) = 3
+action_room (arithmetic o checked to a b) = 3
+action_room (compare o to a b) = 3
+action_room (negate checked to a) = 3
+action_room (complement to a) = 3
+action_room (invert to a) = 3
+action_room (absolute checked to a) = 3
+action_room (odd to a) = 3
+action_room (upper to a) = 3
+action_room (low_bits kind to a) = 3
+action_room (check low high to a) = 3
+action_room (neighbour distance low high to a) = 3
+action_room (single to a) = 3
+action_room (span to a b) = 3
+action_room (combine o to a b) = 3
+action_room (contains to a b) = 3
+action_room (check_set all to a) = 3
 action_room (write_number from width) = 1
 action_room (write_truth from width) = 1
 action_room (write_char from width) = 1
-action_room _ = 3
+action_room (write_text text width) = 3
 
 abbrev pub given_room : Given → ℕ
 given_room (by_value kind t) = 1

@@ -1,11 +1,13 @@
 -- The objects of valid code may be linked.
-use Rattle.std.proofs.Common.{◌≡◌, ℕ, pos, zero, suc, ◌+◌, ◌-◌, ◌*◌, ◌%◌, ◌^◌, ◌-ℤ◌, ◌<◌, ◌≤◌, Bool, true, false, ◌&&◌, nat_le, nat_lt, if◌then◌else◌, Option, Some, None, List, [], ◌∷◌, ◌++◌, length, map, min, slice_get, refl, ap, ap₂, subst, ◌∙◌, arith, length-append}
+use Rattle.std.proofs.Common.{◌≡◌, ℕ, pos, zero, suc, ◌+◌, ◌-◌, ◌*◌, ◌%◌, ◌^◌, ◌-ℤ◌, ◌<◌, ◌≤◌, Bool, true, false, ◌&&◌, nat_le, nat_lt, if◌then◌else◌, Option, Some, None, List, [], ◌∷◌, ◌++◌, length, map, min, slice_get, refl, ap, ◌∙◌, arith, length-append}
+use Rattle.std.specs.Cmp.{first_so, second_so}
 use Rattle.std.specs.List.{list_all}
 use Rattle.std.specs.Option.{option_map}
-use Rattle.std.proofs.lemmas.Bool.{lt-ltb, ltb-true, leb-true}
+use Rattle.std.proofs.lemmas.Bool.{lt-ltb, ltb-true, leb-true, and_from}
 use Rattle.std.proofs.lemmas.Int.{ints}
 use Rattle.std.proofs.lemmas.List.{length-map}
 use Rattle.std.proofs.lemmas.List.Folds.{list_all-append, list_all-map}
+use Rattle.op_base.proofs.Lists.{all_also, passes_at}
 use Rattle.op_rv.specs.Encoding.{fits, is_imm, is_register}
 use Rattle.op_rv.specs.declared.instruction.ImmOp.TheVariants.{Addi}
 use Rattle.op_rv.specs.declared.instruction.Instr.{Instr}
@@ -37,23 +39,6 @@ use Rattle.op_select.specs.declared.frame.Home.TheVariants.{Frame, Register}
 use Rattle.op_image.specs.Building.{is_buildable, is_laid_out}
 
 -- ---- tests that hold together
-
-both : (a b : Bool) → a ≡ true → b ≡ true → (a && b) ≡ true
-both a b first second = ap₂ (λ x y. x && y) first second
-
-left_of : (a b : Bool) → (a && b) ≡ true → a ≡ true
-left_of true b is = refl
-left_of false b is = absurd cc
-
-right_of : (a b : Bool) → (a && b) ≡ true → b ≡ true
-right_of true b is = is
-right_of false b is = absurd cc
-
--- an element of a list of which each passes
-passes_at : {X : Type 0} (p : X → Bool) (xs : List X) (k : ℕ) (x : X) → list_all p xs ≡ true → slice_get xs k ≡ Some x → p x ≡ true
-passes_at p [] k x all is = absurd cc
-passes_at p (y ∷ ys) zero x all is = (let e : y ≡ x = cc in subst (λ z. p z ≡ true) e (left_of _ _ all))
-passes_at p (y ∷ ys) (suc k) x all is = passes_at p ys k x (right_of _ _ all) is
 
 -- a routine that takes arguments is there
 taken_exists : (rs : List Routine) (k arguments : ℕ) → takes (slice_get rs k) arguments ≡ true → k < length rs
@@ -94,10 +79,10 @@ module _ (known : Symbol → Bool) (blocks routines : ℕ) where
 
   good_both : (xs ys : List Item) → Good xs → Good ys → Good (xs ++ ys)
   good_both xs ys first second =
-      record { holds = list_all-append (good known blocks routines) xs ys ∙ both _ _ first.holds second.holds }
+      record { holds = list_all-append (good known blocks routines) xs ys ∙ and_from _ _ first.holds second.holds }
 
   good_one : (i : Item) (is : List Item) → good known blocks routines i ≡ true → Good is → Good (i ∷ is)
-  good_one i is first rest = record { holds = both _ _ first rest.holds }
+  good_one i is first rest = record { holds = and_from _ _ first rest.holds }
 
   good_if : (b : Bool) (xs ys : List Item) → Good xs → Good ys → Good (if b then xs else ys)
   good_if true xs ys first second = first
@@ -108,7 +93,7 @@ module _ (known : Symbol → Bool) (blocks routines : ℕ) where
   good_reach : (base via w : ℕ) → is_register base ≡ true → is_register via ≡ true → Good (reach base via w)
   unfolding reach
   good_reach base via w b v =
-      good_if (is_near w) [] _ none (good_one _ _ (both _ _ v (upper_fits w)) (good_one _ _ (both _ _ (both _ _ v v) b) none))
+      good_if (is_near w) [] _ none (good_one _ _ (and_from _ _ v (upper_fits w)) (good_one _ _ (and_from _ _ (and_from _ _ v v) b) none))
 
   reached_fits : (base via w : ℕ) → is_register base ≡ true → is_register via ≡ true → is_register (reached base via w) ≡ true
   unfolding reached
@@ -121,17 +106,17 @@ module _ (known : Symbol → Bool) (blocks routines : ℕ) where
   good_sum : (to base via w : ℕ) → is_register to ≡ true → is_register base ≡ true → is_register via ≡ true → Good (sum to base via w)
   unfolding sum
   good_sum to base via w t b v =
-      good_both (reach base via w) _ (good_reach base via w b v) (good_one _ _ (both _ _ (both _ _ t (reached_fits base via w b v)) (lower_fits w)) none)
+      good_both (reach base via w) _ (good_reach base via w b v) (good_one _ _ (and_from _ _ (and_from _ _ t (reached_fits base via w b v)) (lower_fits w)) none)
 
   good_load : (to base via w : ℕ) → is_register to ≡ true → is_register base ≡ true → is_register via ≡ true → Good (word_load to base via w)
   unfolding word_load
   good_load to base via w t b v =
-      good_both (reach base via w) _ (good_reach base via w b v) (good_one _ _ (both _ _ (both _ _ t (reached_fits base via w b v)) (lower_fits w)) none)
+      good_both (reach base via w) _ (good_reach base via w b v) (good_one _ _ (and_from _ _ (and_from _ _ t (reached_fits base via w b v)) (lower_fits w)) none)
 
   good_store : (value base via w : ℕ) → is_register value ≡ true → is_register base ≡ true → is_register via ≡ true → Good (word_store value base via w)
   unfolding word_store
   good_store value base via w t b v =
-      good_both (reach base via w) _ (good_reach base via w b v) (good_one _ _ (both _ _ (both _ _ (reached_fits base via w b v) t) (lower_fits w)) none)
+      good_both (reach base via w) _ (good_reach base via w b v) (good_one _ _ (and_from _ _ (and_from _ _ (reached_fits base via w b v) t) (lower_fits w)) none)
 
   good_constant : (to w : ℕ) → is_register to ≡ true → Good (constant to w)
   unfolding constant
@@ -140,8 +125,8 @@ module _ (known : Symbol → Bool) (blocks routines : ℕ) where
       (is_near w)
       _
       _
-      (good_one _ _ (both _ _ (both _ _ t refl) (lower_fits w)) none)
-      (good_one _ _ (both _ _ t (upper_fits w)) (good_one _ _ (both _ _ (both _ _ t t) (lower_fits w)) none))
+      (good_one _ _ (and_from _ _ (and_from _ _ t refl) (lower_fits w)) none)
+      (good_one _ _ (and_from _ _ t (upper_fits w)) (good_one _ _ (and_from _ _ (and_from _ _ t t) (lower_fits w)) none))
 
   -- ---- registers and frames
 
@@ -149,7 +134,7 @@ module _ (known : Symbol → Bool) (blocks routines : ℕ) where
   home_fits r is = (let small = ltb-true r 14 is in lt-ltb _ _ (omega arith))
 
   good_move : (to from : ℕ) → is_register to ≡ true → is_register from ≡ true → Good (Plain (ImmInstr Addi to from (pos 0)) ∷ [])
-  good_move to from t f = good_one _ _ (both _ _ (both _ _ t f) refl) none
+  good_move to from t f = good_one _ _ (and_from _ _ (and_from _ _ t f) refl) none
 
   good_fetch : (routine : Routine) (to : ℕ) (r : VirtualRegister) → is_register to ≡ true → Good (fetch routine to r)
   unfolding fetch home load_home
@@ -216,7 +201,7 @@ module _ (known : Symbol → Bool) (blocks routines : ℕ) where
 
   good_taken_from : (k source : ℕ) → k < 14 → is_register source ≡ true → Good (taken_from k source)
   good_taken_from k source few s =
-      good_one _ _ (both _ _ (small_home k few) (saved_fits k few)) (good_move (18 + k) source (small_home k few) s)
+      good_one _ _ (and_from _ _ (small_home k few) (saved_fits k few)) (good_move (18 + k) source (small_home k few) s)
 
   good_taken_one : (routine : Routine) (k : ℕ) → k < 14 → Good (taken_one routine k)
   unfolding taken_one
@@ -237,7 +222,7 @@ module _ (known : Symbol → Bool) (blocks routines : ℕ) where
   unfolding given_back
   good_given_back zero few = none
   good_given_back (suc n) few =
-      good_both (given_back n) _ (good_given_back n (omega arith)) (good_one _ _ (both _ _ (both _ _ (small_home n (omega arith)) refl) (saved_fits n (omega arith))) none)
+      good_both (given_back n) _ (good_given_back n (omega arith)) (good_one _ _ (and_from _ _ (and_from _ _ (small_home n (omega arith)) refl) (saved_fits n (omega arith))) none)
 
   good_cleared_registers : (routine : Routine) → Good (cleared_registers routine)
   unfolding cleared_registers
@@ -290,10 +275,10 @@ module _ (known : Symbol → Bool) (blocks routines : ℕ) where
 
   -- the registers of a result and an operand
   two_fit : (routine : Routine) (to from : VirtualRegister) → (is_register (operand routine 10 to) && is_register (operand routine 10 from)) ≡ true
-  two_fit routine to from = both _ _ (operand_fits routine 10 to refl) (operand_fits routine 10 from refl)
+  two_fit routine to from = and_from _ _ (operand_fits routine 10 to refl) (operand_fits routine 10 from refl)
 
   operands_are : (routine : Routine) (left right : VirtualRegister) → (is_register (operand routine 10 left) && is_register (operand routine 11 right)) ≡ true
-  operands_are routine left right = both _ _ (operand_fits routine 10 left refl) (operand_fits routine 11 right refl)
+  operands_are routine left right = and_from _ _ (operand_fits routine 10 left refl) (operand_fits routine 11 right refl)
 
   good_transfer : (routine : Routine) (buffer size : VirtualRegister) (d n : ℕ) → nat_lt d (2 ^ 11) ≡ true → nat_lt n (2 ^ 11) ≡ true → Good (fetch routine 11 buffer ++ fetch routine 12 size ++ Plain (ImmInstr Addi 10 0 (pos d)) ∷ [] ++ Plain (ImmInstr Addi 17 0 (pos n)) ∷ [] ++ Plain Ecall ∷ [])
   good_transfer routine buffer size d n small few =
@@ -308,33 +293,33 @@ module _ (known : Symbol → Bool) (blocks routines : ℕ) where
   good_items low routine more few knows (Const to n) valid =
       good_both (constant (operand routine 10 to) n) _ (good_constant (operand routine 10 to) n (operand_fits routine 10 to refl)) (good_put routine to)
   good_items low routine more few knows (Address to symbol) valid =
-      good_one _ _ (both _ _ (operand_fits routine 10 to refl) (knows symbol (right_of _ _ valid))) (good_put routine to)
+      good_one _ _ (and_from _ _ (operand_fits routine 10 to refl) (knows symbol (second_so _ _ valid))) (good_put routine to)
   good_items low routine more few knows (Local to offset) valid =
       let t = operand_fits routine 10 to refl in
       good_both (sum (operand routine 10 to) 8 (operand routine 10 to) _) _ (good_sum (operand routine 10 to) 8 (operand routine 10 to) _ t refl t) (good_put routine to)
   good_items low routine more few knows (Move to from) valid =
       good_both (fetch routine (operand routine 10 to) from) _ (good_fetch routine (operand routine 10 to) from (operand_fits routine 10 to refl)) (good_put routine to)
   good_items low routine more few knows (Alu op to left right) valid =
-      good_both (bring routine 10 left ++ bring routine 11 right) _ (good_operands routine left right) (good_one _ _ (both _ _ (two_fit routine to left) (operand_fits routine 11 right refl)) (good_put routine to))
+      good_both (bring routine 10 left ++ bring routine 11 right) _ (good_operands routine left right) (good_one _ _ (and_from _ _ (two_fit routine to left) (operand_fits routine 11 right refl)) (good_put routine to))
   good_items low routine more few knows (AluImm op to left imm) valid =
-      good_computed routine left to (ImmInstr op (operand routine 10 to) (operand routine 10 left) imm) (both _ _ (two_fit routine to left) (right_of _ _ valid))
+      good_computed routine left to (ImmInstr op (operand routine 10 to) (operand routine 10 left) imm) (and_from _ _ (two_fit routine to left) (second_so _ _ valid))
   good_items low routine more few knows (Shift op to left amount) valid =
-      good_computed routine left to (ShiftInstr op (operand routine 10 to) (operand routine 10 left) amount) (both _ _ (two_fit routine to left) (right_of _ _ valid))
+      good_computed routine left to (ShiftInstr op (operand routine 10 to) (operand routine 10 left) amount) (and_from _ _ (two_fit routine to left) (second_so _ _ valid))
   good_items low routine more few knows (Load op to base offset) valid =
-      good_computed routine base to (LoadInstr op (operand routine 10 to) (operand routine 10 base) offset) (both _ _ (two_fit routine to base) (right_of _ _ valid))
+      good_computed routine base to (LoadInstr op (operand routine 10 to) (operand routine 10 base) offset) (and_from _ _ (two_fit routine to base) (second_so _ _ valid))
   good_items low routine more few knows (Store op v base offset) valid =
-      good_both (bring routine 10 base ++ bring routine 11 v) _ (good_operands routine base v) (good_one _ _ (both _ _ (operands_are routine base v) (right_of _ _ valid)) none)
+      good_both (bring routine 10 base ++ bring routine 11 v) _ (good_operands routine base v) (good_one _ _ (and_from _ _ (operands_are routine base v) (second_so _ _ valid)) none)
   good_items low routine more few knows (Call id operands) valid =
-      let there = taken_exists low.routines id.0 (length operands.arguments) (left_of _ _ valid) in
+      let there = taken_exists low.routines id.0 (length operands.arguments) (first_so _ _ valid) in
       good_both (passed routine 0 operands.arguments) _ (good_passed routine 0 operands.arguments) (
-      good_one _ _ (lt-ltb _ _ (omega arith)) (good_answered routine operands.to operands.landing more (right_of _ _ (right_of _ _ valid))))
+      good_one _ _ (lt-ltb _ _ (omega arith)) (good_answered routine operands.to operands.landing more (second_so _ _ (second_so _ _ valid))))
   good_items low routine more few knows (CallAt address operands) valid =
       good_both (passed routine 0 operands.arguments ++ fetch routine 1 address) _
       (good_both (passed routine 0 operands.arguments) _ (good_passed routine 0 operands.arguments) (good_fetch routine 1 address refl))
-      (good_one _ _ refl (good_answered routine operands.to operands.landing more (right_of _ _ (right_of _ _ valid))))
+      (good_one _ _ refl (good_answered routine operands.to operands.landing more (second_so _ _ (second_so _ _ valid))))
   good_items low routine more few knows (Branch op left right block) valid =
-      let small = ltb-true block.0 (length routine.blocks) (right_of _ _ valid) in
-      good_both (bring routine 10 left ++ bring routine 11 right) _ (good_operands routine left right) (good_one _ _ (both _ _ (operands_are routine left right) (lt-ltb _ _ (omega arith))) none)
+      let small = ltb-true block.0 (length routine.blocks) (second_so _ _ valid) in
+      good_both (bring routine 10 left ++ bring routine 11 right) _ (good_operands routine left right) (good_one _ _ (and_from _ _ (operands_are routine left right) (lt-ltb _ _ (omega arith))) none)
   good_items low routine more few knows (Jump block) valid = (let small = ltb-true block.0 (length routine.blocks) valid in good_one _ _ (lt-ltb _ _ (omega arith)) none)
   good_items low routine more few knows (Return v) valid =
       good_both (fetch routine 10 v ++ Plain (ImmInstr Addi 11 0 (pos 0)) ∷ []) _ (good_both (fetch routine 10 v) _ (good_fetch routine 10 v refl) (record { holds = refl })) (good_epilogue routine)
@@ -351,26 +336,26 @@ module _ (known : Symbol → Bool) (blocks routines : ℕ) where
   unfolding code_items
   good_code low routine more few knows [] valid = none
   good_code low routine more few knows (i ∷ is) valid =
-      good_both (items_of routine i) _ (good_items low routine more few knows i (left_of _ _ valid)) (good_code low routine more few knows is (right_of _ _ valid))
+      good_both (items_of routine i) _ (good_items low routine more few knows i (first_so _ _ valid)) (good_code low routine more few knows is (second_so _ _ valid))
 
   good_blocks : (low : Low) (routine : Routine) → length routine.blocks < blocks → length low.routines ≤ routines → ((symbol : Symbol) → has_symbol low symbol ≡ true → known symbol ≡ true) → (bs : List Block) → list_all (is_valid_block low routine) bs ≡ true → list_all (λ block. list_all (good known blocks routines) block.items) (map (object_block_of routine) bs) ≡ true
   unfolding object_block_of is_valid_block
   good_blocks low routine more few knows [] valid = refl
   good_blocks low routine more few knows (b ∷ bs) valid =
-      both _ _ (good_code low routine more few knows b.code (right_of _ _ (left_of _ _ valid))).holds (good_blocks low routine more few knows bs (right_of _ _ valid))
+      and_from _ _ (good_code low routine more few knows b.code (second_so _ _ (first_so _ _ valid))).holds (good_blocks low routine more few knows bs (second_so _ _ valid))
 
 -- ---- what the linker asks
 
 -- the offset of each place lies within the constants
 within_offsets : (layout : Layout) (offsets : List ℕ) (k : ℕ) → k < length offsets → list_all (λ offset. nat_le offset (constants_size layout)) offsets ≡ true → lies_within layout (slice_get offsets k) ≡ true
 within_offsets layout [] k there all = absurd (omega arith)
-within_offsets layout (o ∷ os) zero there all = left_of _ _ all
-within_offsets layout (o ∷ os) (suc k) there all = within_offsets layout os k (omega arith) (right_of _ _ all)
+within_offsets layout (o ∷ os) zero there all = first_so _ _ all
+within_offsets layout (o ∷ os) (suc k) there all = within_offsets layout os k (omega arith) (second_so _ _ all)
 
 within_literals : (layout : Layout) (places : List LiteralPlace) (k : ℕ) → k < length places → list_all (λ place. nat_le place.offset (constants_size layout)) places ≡ true → lies_within layout (option_map (λ place. place.offset) (slice_get places k)) ≡ true
 within_literals layout [] k there all = absurd (omega arith)
-within_literals layout (o ∷ os) zero there all = left_of _ _ all
-within_literals layout (o ∷ os) (suc k) there all = within_literals layout os k (omega arith) (right_of _ _ all)
+within_literals layout (o ∷ os) zero there all = first_so _ _ all
+within_literals layout (o ∷ os) (suc k) there all = within_literals layout os k (omega arith) (second_so _ _ all)
 
 -- the parts of what is laid out
 record Enough (low : Low) (layout : Layout) : Type 0 where
@@ -386,8 +371,8 @@ record Enough (low : Low) (layout : Layout) : Type 0 where
 good_fields : (objects : Objects) (layout : Layout) (blocks : ℕ) (i : Item) → good (symbol_exists objects layout) blocks (length objects.routines) i ≡ true → has_fields i ≡ true
 unfolding has_fields
 good_fields objects layout blocks (Plain i) is = is
-good_fields objects layout blocks (AddressItem rd symbol) is = left_of _ _ is
-good_fields objects layout blocks (BranchItem op left right block) is = left_of _ _ is
+good_fields objects layout blocks (AddressItem rd symbol) is = first_so _ _ is
+good_fields objects layout blocks (BranchItem op left right block) is = first_so _ _ is
 good_fields objects layout blocks (JumpItem block) is = refl
 good_fields objects layout blocks (CallItem id landing) is = refl
 good_fields objects layout blocks (CallAtItem landing) is = refl
@@ -395,37 +380,32 @@ good_fields objects layout blocks (CallAtItem landing) is = refl
 good_names : (objects : Objects) (layout : Layout) (blocks : ℕ) (i : Item) → good (symbol_exists objects layout) blocks (length objects.routines) i ≡ true → names_exist objects layout blocks i ≡ true
 unfolding names_exist
 good_names objects layout blocks (Plain i) is = refl
-good_names objects layout blocks (AddressItem rd symbol) is = right_of _ _ is
-good_names objects layout blocks (BranchItem op left right block) is = right_of _ _ is
+good_names objects layout blocks (AddressItem rd symbol) is = second_so _ _ is
+good_names objects layout blocks (BranchItem op left right block) is = second_so _ _ is
 good_names objects layout blocks (JumpItem block) is = is
 good_names objects layout blocks (CallItem id landing) is = is
 good_names objects layout blocks (CallAtItem landing) is = refl
 
--- what is asked of each element follows from what holds of each
-all_also : {X : Type 0} (p q : X → Bool) (xs : List X) → ((x : X) → p x ≡ true → q x ≡ true) → list_all p xs ≡ true → list_all q xs ≡ true
-all_also p q [] leads all = refl
-all_also p q (x ∷ xs) leads all = both _ _ (leads x (left_of _ _ all)) (all_also p q xs leads (right_of _ _ all))
-
 module _ (low : Low) (layout : Layout) (buildable : is_buildable low layout ≡ true) where
   pub valid_code : is_valid low ≡ true
   unfolding is_buildable
-  valid_code = left_of _ _ (left_of _ _ buildable)
+  valid_code = first_so _ _ (first_so _ _ buildable)
 
   laid_out : is_laid_out low layout ≡ true
   unfolding is_buildable
-  laid_out = right_of _ _ (left_of _ _ buildable)
+  laid_out = second_so _ _ (first_so _ _ buildable)
 
   enough : Enough low layout
   unfolding is_laid_out
   enough =
       record {
-        literals = left_of _ _ (left_of _ _ (left_of _ _ (left_of _ _ (left_of _ _ (left_of _ _ laid_out)))));
-        tables = right_of _ _ (left_of _ _ (left_of _ _ (left_of _ _ (left_of _ _ (left_of _ _ laid_out)))));
-        descriptors = right_of _ _ (left_of _ _ (left_of _ _ (left_of _ _ (left_of _ _ laid_out))));
-        literal_offsets = right_of _ _ (left_of _ _ (left_of _ _ (left_of _ _ laid_out)));
-        table_offsets = right_of _ _ (left_of _ _ (left_of _ _ laid_out));
-        descriptor_offsets = right_of _ _ (left_of _ _ laid_out);
-        entries = right_of _ _ laid_out;
+        literals = first_so _ _ (first_so _ _ (first_so _ _ (first_so _ _ (first_so _ _ (first_so _ _ laid_out)))));
+        tables = second_so _ _ (first_so _ _ (first_so _ _ (first_so _ _ (first_so _ _ (first_so _ _ laid_out)))));
+        descriptors = second_so _ _ (first_so _ _ (first_so _ _ (first_so _ _ (first_so _ _ laid_out))));
+        literal_offsets = second_so _ _ (first_so _ _ (first_so _ _ (first_so _ _ laid_out)));
+        table_offsets = second_so _ _ (first_so _ _ (first_so _ _ laid_out));
+        descriptor_offsets = second_so _ _ (first_so _ _ laid_out);
+        entries = second_so _ _ laid_out;
       }
 
   pub literal_offset : (k : ℕ) (place : LiteralPlace) → slice_get layout.literals k ≡ Some place → nat_le place.offset (constants_size layout) ≡ true
@@ -433,7 +413,7 @@ module _ (low : Low) (layout : Layout) (buildable : is_buildable low layout ≡ 
 
   pub globals_fit : nat_le (globals_size low.globals) 15728640 ≡ true
   unfolding is_buildable
-  globals_fit = right_of _ _ buildable
+  globals_fit = second_so _ _ buildable
 
   pub same_length : length (select_of low).routines ≡ length low.routines
   unfolding select_of
@@ -471,32 +451,32 @@ module _ (low : Low) (layout : Layout) (buildable : is_buildable low layout ≡ 
     unfolding object_routine_of passes is_valid_routine is_valid_instruction
     blocks_pass =
         list_all-append (λ block. list_all passes block.items) (map (object_block_of routine) routine.blocks) (record { items = items_of routine Raise } ∷ [])
-        ∙ both _ _
-        (good_blocks (symbol_exists (select_of low) layout) blocks (length (select_of low).routines) low routine more few symbols_exist routine.blocks (right_of _ _ valid))
-        (both _ _ (good_items (symbol_exists (select_of low) layout) blocks (length (select_of low).routines) low routine more few symbols_exist Raise refl).holds refl)
+        ∙ and_from _ _
+        (good_blocks (symbol_exists (select_of low) layout) blocks (length (select_of low).routines) low routine more few symbols_exist routine.blocks (second_so _ _ valid))
+        (and_from _ _ (good_items (symbol_exists (select_of low) layout) blocks (length (select_of low).routines) low routine more few symbols_exist Raise refl).holds refl)
 
     fields_there : routine_has_fields (object_routine_of routine) ≡ true
     unfolding routine_has_fields blocks_have_fields passes
     fields_there =
-        both _ _
+        and_from _ _
         (all_also passes has_fields (object_routine_of routine).head (good_fields (select_of low) layout blocks) head_passes)
         (all_also (λ block. list_all passes block.items) (λ block. have_fields block.items) (object_routine_of routine).blocks (λ block all. all_also passes has_fields block.items (good_fields (select_of low) layout blocks) all) blocks_pass)
 
     names_there : all_names_exist (select_of low) layout (object_routine_of routine) ≡ true
     unfolding passes blocks
     names_there =
-        both _ _
+        and_from _ _
         (all_also passes (names_exist (select_of low) layout blocks) (object_routine_of routine).head (good_names (select_of low) layout blocks) head_passes)
         (all_also (λ block. list_all passes block.items) (λ block. list_all (names_exist (select_of low) layout blocks) block.items) (object_routine_of routine).blocks (λ block all. all_also passes (names_exist (select_of low) layout blocks) block.items (good_names (select_of low) layout blocks) all) blocks_pass)
 
   pub routines_valid : list_all (is_valid_routine low) low.routines ≡ true
   unfolding is_valid
-  routines_valid = right_of _ _ valid_code
+  routines_valid = second_so _ _ valid_code
 
   pub entry_there : nat_lt low.entry.0 (length (select_of low).routines) ≡ true
   unfolding is_valid
   entry_there =
-      let there = taken_exists low.routines low.entry.0 0 (left_of _ _ valid_code) in
+      let there = taken_exists low.routines low.entry.0 0 (first_so _ _ valid_code) in
       lt-ltb _ _ (omega (arith, same_length))
 
   pub all_fields : list_all routine_has_fields (select_of low).routines ≡ true
@@ -525,6 +505,6 @@ module _ (low : Low) (layout : Layout) (buildable : is_buildable low layout ≡ 
   pub linkable : is_linkable (select_of low) layout ≡ true
   unfolding is_linkable
   linkable =
-      both _ _
-      (both _ _ (both _ _ (both _ _ (ap (λ e. nat_lt e.0 (length (select_of low).routines)) entry_kept ∙ entry_there) globals_there) all_fields) all_names)
+      and_from _ _
+      (and_from _ _ (and_from _ _ (and_from _ _ (ap (λ e. nat_lt e.0 (length (select_of low).routines)) entry_kept ∙ entry_there) globals_there) all_fields) all_names)
       all_entries

@@ -2,7 +2,7 @@
 -- and the stack may be used.
 use Rattle.std.proofs.Common.{◌≡◌, ℕ, zero, suc, ◌+◌, ◌-◌, ◌*◌, ◌/◌, ◌%◌, ◌^◌, ◌<◌, ◌≤◌, Bool, true, false, ◌&&◌, cond, nat_eq, nat_le, min, Some, None, List, [], ◌∷◌, ◌++◌, length, get_or, take, drop, map, replicate, slice_get, refl, ap, sym, subst, ◌∙◌, arith, length-append}
 use Rattle.std.proofs.lemmas.Bool.Decides.{nat_tests}
-use Rattle.std.proofs.lemmas.Bool.{and_parts, leb-true, eqb-true}
+use Rattle.std.proofs.lemmas.Bool.{and_parts, leb-true, eqb-true, cond-true, cond-false}
 use Rattle.std.proofs.lemmas.List.{length-replicate, length-take}
 use Rattle.std.proofs.lemmas.Option.{slice_get_within}
 use Rattle.std.specs.List.{list_all}
@@ -24,16 +24,15 @@ use Rattle.op_rv.specs.Decoding.{instr_at}
 use Rattle.op_rv.specs.Encoding.{fits, word_of}
 use Rattle.op_rv.specs.State.{word_at}
 use Rattle.op_rv.specs.declared.instruction.Instr.{Instr}
-use Rattle.op_select.proofs.WordLemmas.{cond_false, cond_true}
 use Rattle.op_image.specs.Meaning.{instruction_at}
 
 -- ---- regions
 
 here_at : (r : Region) (rs : List Region) (a : ℕ) → r.base ≤ a → a < r.base + length r.bytes → region_at (r ∷ rs) a ≡ Some r
-here_at r rs a lower upper = cond_true (covers (range_of r) a) (Some r) (region_at rs a) (grind (arith, nat_tests))
+here_at r rs a lower upper = cond-true (covers (range_of r) a) (Some r) (region_at rs a) (grind (arith, nat_tests))
 
 past_it : (r : Region) (rs : List Region) (a : ℕ) → r.base + length r.bytes ≤ a → region_at (r ∷ rs) a ≡ region_at rs a
-past_it r rs a upper = cond_false (covers (range_of r) a) (Some r) (region_at rs a) (grind (arith, nat_tests))
+past_it r rs a upper = cond-false (covers (range_of r) a) (Some r) (region_at rs a) (grind (arith, nat_tests))
 
 min_below : (a b c : ℕ) → a ≤ c → min a b + (c - a) ≤ c
 min_below a b c under = omega arith

@@ -1,6 +1,6 @@
 -- The image of low code does what the low code does.
 use Rattle.std.proofs.Common.{◌≡◌, ℕ, zero, suc, ◌+◌, ◌-◌, ◌*◌, ◌^◌, ◌<◌, ◌≤◌, true, nat_eq, Option, Some, None, List, [], ◌∷◌, ◌++◌, length, slice_get, refl, ap, sym, subst, ◌∙◌, inl, inr, arith}
-use Rattle.std.proofs.lemmas.Bool.{cases_lt}
+use Rattle.std.proofs.lemmas.Bool.{cases_lt, cond-false, cond-true}
 use Rattle.std.proofs.lemmas.Bool.Decides.{nat_tests}
 use Rattle.std.specs.List.{list_all}
 use Rattle.std.specs.Option.{option_map}
@@ -33,7 +33,6 @@ use Rattle.op_rv.specs.declared.symbol.Symbol.{Symbol}
 use Rattle.op_select.proofs.Beginning.{begins}
 use Rattle.op_select.proofs.Following.{selected_follows}
 use Rattle.op_select.proofs.Walks.{placed, sound_placed}
-use Rattle.op_select.proofs.WordLemmas.{cond_false, cond_true}
 use Rattle.op_select.specs.Going.{IsSafe, IsSetting, Setting, Sound, placement_of}
 use Rattle.op_select.specs.RiscvMachine.{riscv_machine}
 use Rattle.op_select.specs.Selected.{Finished, Matches, MatchesBy, selected}
@@ -68,10 +67,10 @@ unfolding routine_place
 head_is_first known r spot routine = refl
 
 first_found : (n : ℕ) (place : RoutinePlace) (places : List RoutinePlace) (at : ℕ) → place.head ≡ at → routine_from n (place ∷ places) at ≡ Some n
-first_found n place places at is = cond_true (nat_eq place.head at) (Some n) (routine_from (suc n) places at) (grind (arith, nat_tests))
+first_found n place places at is = cond-true (nat_eq place.head at) (Some n) (routine_from (suc n) places at) (grind (arith, nat_tests))
 
 later_found : (n : ℕ) (place : RoutinePlace) (places : List RoutinePlace) (at : ℕ) → place.head < at → routine_from n (place ∷ places) at ≡ routine_from (suc n) places at
-later_found n place places at under = cond_false (nat_eq place.head at) (Some n) (routine_from (suc n) places at) (grind (arith, nat_tests))
+later_found n place places at under = cond-false (nat_eq place.head at) (Some n) (routine_from (suc n) places at) (grind (arith, nat_tests))
 
 found_at : (known : List RoutinePlace) (r : ℕ) (spot : Spot) (routines : List ObjectRoutine) (k n : ℕ) (place : RoutinePlace) → HaveItems routines → r + k ≡ n → slice_get (routine_places known r spot routines) k ≡ Some place → routine_from r (routine_places known r spot routines) place.head ≡ Some n
 found_at known r spot [] k n place items count is = absurd cc

@@ -1,6 +1,6 @@
 -- A linked image is a setting of its low code.
 use Rattle.std.proofs.Common.{◌≡◌, ℕ, suc, ◌+◌, ◌-◌, ◌*◌, ◌^◌, ◌<◌, ◌≤◌, Bool, true, false, cond, nat_eq, nat_lt, Option, Some, None, List, [], ◌∷◌, length, get_or, take, drop, map, slice_get, refl, ap, sym, subst, ◌∙◌, arith, length-append}
-use Rattle.std.proofs.lemmas.Bool.{eqb-true, leb-true, lt-ltb}
+use Rattle.std.proofs.lemmas.Bool.{cond-true, eqb-true, leb-true, lt-ltb}
 use Rattle.std.proofs.lemmas.List.{get_or-drop, get_or-take, get_or_append_left, length-drop, length-take}
 use Rattle.std.specs.Option.{option_map, option_map_or}
 use Rattle.op_layout.specs.declared.layout.Layout.{Layout}
@@ -30,7 +30,6 @@ use Rattle.op_rv.specs.declared.objects.ObjectRoutine.{ObjectRoutine}
 use Rattle.op_rv.specs.declared.objects.Objects.{Objects}
 use Rattle.op_rv.specs.declared.symbol.LiteralId.{LiteralId}
 use Rattle.op_rv.specs.declared.symbol.Symbol.TheVariants.{Literal}
-use Rattle.op_select.proofs.WordLemmas.{cond_true}
 use Rattle.op_select.specs.Going.{IsSetting}
 use Rattle.op_select.specs.Placing.{StandsObjects}
 use Rattle.op_select.specs.Selection.{select_of}
@@ -184,7 +183,7 @@ module _ (low : Low) (layout : Layout) (settings : Settings) (image : List ℕ) 
       let size = size_within in
       let laid = constants_are in
       ap (λ found. or_zero (address_of_place from (option_map (λ (place : LiteralPlace). place.offset) found))) is
-      ∙ ap or_zero (cond_true (nat_lt (from + place.offset) (2 ^ 32)) (Some (from + place.offset)) None (lt-ltb (from + place.offset) (2 ^ 32) (omega arith)))
+      ∙ ap or_zero (cond-true (nat_lt (from + place.offset) (2 ^ 32)) (Some (from + place.offset)) None (lt-ltb (from + place.offset) (2 ^ 32) (omega arith)))
 
   literal_byte : (place : LiteralPlace) (k : ℕ) → k < length (literal_bytes layout place) → byte_in (regions_in image) (constants_address (linked_sizes (select_of low) layout settings) + (place.offset + k)) ≡ get_or (literal_bytes layout place) k 0
   unfolding constants_bytes

@@ -1,7 +1,6 @@
 -- The addresses of routines and blocks lie within the code, and those of symbols are words.
 use Rattle.std.proofs.Common.{◌≡◌, ℕ, zero, suc, ◌+◌, ◌%◌, ◌^◌, ◌<◌, ◌≤◌, Bool, true, false, cond, nat_lt, Option, Some, None, List, [], ◌∷◌, slice_get, refl, ap, sym, subst, ◌∙◌, arith}
 use Rattle.std.proofs.lemmas.Bool.{ltb-true}
-use Rattle.std.proofs.lemmas.List.Sums.{sum_by-cons}
 use Rattle.std.specs.Option.{option_map, option_map_or}
 use Rattle.op_layout.specs.declared.layout.Layout.{Layout}
 use Rattle.op_link.proofs.Growth.{Grows, blocks_grow, items_grow, routine_grows, routines_grow}
@@ -9,7 +8,8 @@ use Rattle.op_link.proofs.Lengths.{some_same}
 use Rattle.op_link.specs.Code.{address_at, address_of_place, symbol_address}
 use Rattle.op_link.specs.Linking.{addresses_of, linked_size_by, sizes_of}
 use Rattle.op_link.specs.Loaded.{addresses_by, sizes_by}
-use Rattle.op_link.specs.Memory.{begins_as_zero, constants_address, global_addresses, globals_address, initial_part, initial_size, zero_part, zero_size}
+use Rattle.op_link.proofs.GlobalPlaces.{behind_there, globals_least, in_own, in_zeros}
+use Rattle.op_link.specs.Memory.{addresses_from, begin_of, begins_as_zero, behind_global, behind_globals, constants_address, globals_address, initial_size, zero_size}
 use Rattle.op_link.specs.Placing.{behind_items, behind_blocks, behind_routine, behind_routines, block_addresses, first_spot, placement_by, routine_place, routine_places}
 use Rattle.op_link.specs.Reach.{block_in, head_in}
 use Rattle.op_link.specs.declared.place.RoutinePlace.{RoutinePlace}
@@ -104,18 +104,15 @@ unfolding address_at
 place_fits base None to found = absurd cc
 place_fits base (Some offset) to found = offset_fits (nat_lt (base + offset) (2 ^ 32)) (base + offset) to refl found
 
-global_by : (test : Bool) (own other k to most : ℕ) → own ≤ most → other ≤ most → Some (cond test other own) ≡ Some to → to ≤ most
-global_by true own other k to most a b is = subst (λ to. to ≤ most) (some_same other to is) b
-global_by false own other k to most a b is = subst (λ to. to ≤ most) (some_same own to is) a
-
-global_fits : (own other : ℕ) (globals : List GlobalVariable) (k to most : ℕ) → own + initial_size globals ≤ most → other + zero_size globals ≤ most → slice_get (global_addresses own other globals) k ≡ Some to → to ≤ most
-global_fits own other [] k to most first second is = absurd cc
-global_fits own other (global ∷ globals) zero to most first second is =
-    global_by (begins_as_zero global) own other 0 to most (omega arith) (omega arith) is
-global_fits own other (global ∷ globals) (suc k) to most first second is =
-    let a = sum_by-cons initial_part global globals in
-    let b = sum_by-cons zero_part global globals in
-    global_fits (own + initial_part global) (other + zero_part global) globals k to most (omega arith) (omega arith) is
+global_fits : (start own other : ℕ) (globals : List GlobalVariable) (k to most : ℕ) → start + behind_globals false own globals ≤ most → start + behind_globals true other globals ≤ most → slice_get (addresses_from start own other globals) k ≡ Some to → to ≤ most
+global_fits start own other [] k to most first second is = absurd cc
+global_fits start own other (global ∷ globals) zero to most first second is = subst (λ to. to ≤ most) (some_same _ to is) (by (begins_as_zero global) refl)
+  where
+    by : (b : Bool) → begins_as_zero global ≡ b → start + begin_of (cond b other own) global ≤ most
+    by true zeros = let there = behind_there true other global (in_zeros global true zeros) in let rest = globals_least true (behind_global true other global) globals in omega arith
+    by false own_bytes = let there = behind_there false own global (in_own global false own_bytes) in let rest = globals_least false (behind_global false own global) globals in omega arith
+global_fits start own other (global ∷ globals) (suc k) to most first second is =
+    global_fits start (behind_global false own global) (behind_global true other global) globals k to most first second is
 
 -- ---- a program
 
@@ -163,7 +160,8 @@ module _ (known : List RoutinePlace) (layout : Layout) (objects : Objects) (with
       let low = globals_low in
       let first = globals_address (sizes_by known layout objects) in
       let most = first + initial_size objects.globals + zero_size objects.globals in
-      let at_most : at ≤ most = global_fits first (first + initial_size objects.globals) objects.globals k at most (omega arith) (omega arith) is in
+      let more = globals_least true (initial_size objects.globals) objects.globals in
+      let at_most : at ≤ most = global_fits first 0 (initial_size objects.globals) objects.globals k at most (omega arith) (omega arith) is in
       omega arith
 
   symbol_is_there : (symbol : Symbol) (at : ℕ) → symbol_address layout (addresses_by known layout objects) symbol ≡ Some at → at < 2 ^ 32

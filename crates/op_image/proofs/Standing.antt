@@ -1,5 +1,6 @@
 -- A linked routine stands as selection wants it.
 use Rattle.std.proofs.Common.{◌≡◌, ℕ, ◌+◌, ◌-◌, ◌*◌, ◌/◌, ◌%◌, ◌^◌, ◌<◌, ◌≤◌, ◌&&◌, nat_eq, nat_le, Some, None, List, [], ◌∷◌, ◌++◌, length, slice_get, refl, ap, sym, subst, ◌∙◌, arith, append_assoc, length-append}
+use Rattle.std.proofs.lemmas.Bool.{cond-true}
 use Rattle.std.proofs.lemmas.Bool.Decides.{nat_tests}
 use Rattle.op_layout.specs.declared.layout.Layout.{Layout}
 use Rattle.op_link.proofs.Lengths.{item_ends_at}
@@ -12,7 +13,6 @@ use Rattle.op_link.specs.declared.place.Spot.{Spot}
 use Rattle.op_rv.specs.declared.instruction.Instr.{Instr}
 use Rattle.op_rv.specs.declared.objects.Item.{Item}
 use Rattle.op_rv.specs.declared.objects.ObjectRoutine.{ObjectRoutine}
-use Rattle.op_select.proofs.WordLemmas.{cond_true}
 use Rattle.op_select.specs.Placing.{Nothing, First, Stands, StandsHere, StandsRoutine, past}
 use Rattle.op_image.proofs.Expanding.{Targets, expands}
 use Rattle.op_image.specs.Meaning.{instruction_at, or_zero, placing_by}
@@ -29,7 +29,7 @@ instruction_here code n at i is place =
     let fourth : at % 4 ≡ 0 = omega arith in
     let from : 65536 ≤ at = omega arith in
     let index : (at - 65536) / 4 ≡ n = omega arith in
-    cond_true (nat_le 65536 at && nat_eq (at % 4) 0) (slice_get code ((at - 65536) / 4)) None (grind (arith, nat_tests)) ∙ ap (slice_get code) index ∙ is
+    cond-true (nat_le 65536 at && nat_eq (at % 4) 0) (slice_get code ((at - 65536) / 4)) None (grind (arith, nat_tests)) ∙ ap (slice_get code) index ∙ is
 
 behind_all : (before after : List Instr) (i : Instr) → slice_get (before ++ (i ∷ after)) (length before) ≡ Some i
 behind_all [] after i = refl

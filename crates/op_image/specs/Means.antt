@@ -88,10 +88,12 @@ pub record StandsText (w : Setting) (image : List ℕ) (at : ℕ) (bytes : List 
 abbrev pub literal_bytes : Layout → LiteralPlace → List ℕ
 literal_bytes layout place = take place.length (drop place.offset layout.bytes)
 
--- a global variable lies at an address of the loaded image: a multiple of 4, below the control region, the heap and the stack. Its
--- bytes may be read and written, which code and literals may not. Those that it begins with stand there, and zeros behind them.
+-- a global variable lies at an address of the loaded image: a multiple of 4 if its size is one, and an even one if its size is even; below
+-- the control region, the heap and the stack. Its bytes may be read and written, which code and literals may not. Those that it begins with
+-- stand there, and zeros behind them.
 pub record StandsGlobal (w : Setting) (image : List ℕ) (at : ℕ) (global : GlobalVariable) : Type 0 where
-  pub aligned : at % 4 ≡ 0
+  pub words : 0 < variable_size global → variable_size global % 4 ≡ 0 → at % 4 ≡ 0
+  pub halves : 0 < variable_size global → variable_size global % 2 ≡ 0 → at % 2 ≡ 0
   pub readable : (x : ℕ) → at ≤ x → x < at + variable_size global → w.rights.readable x ≡ true
   pub writable : (x : ℕ) → at ≤ x → x < at + variable_size global → w.rights.writable x ≡ true
   pub before_control : at + variable_size global ≤ control_address

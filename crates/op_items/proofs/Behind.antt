@@ -1,5 +1,6 @@
 -- Items behind items.
-use Rattle.std.proofs.Common.{◌≡◌, List, refl, ap, subst, ◌∙◌, IfOk, Result, Ok, Err}
+use Rattle.std.proofs.Common.{◌≡◌, List, refl, ap, subst, ◌∙◌, IfOk, Result}
+use Rattle.op_base.proofs.Tests.{map_ok}
 use Rattle.op_base.specs.declared.memory_error.NoMemory.{NoMemory}
 use Rattle.op_items.specs.Adding.{Adds, view_in}
 use Rattle.op_items.specs.declared.item.Item.{Item}
@@ -16,10 +17,6 @@ behind_behind (then_do x xs) ys zs = ap (then_do x) (behind_behind xs ys zs)
 pub behind_none : (xs : Items) → xs & none ≡ xs
 behind_none none = refl
 behind_none (then_do x xs) = ap (then_do x) (behind_none xs)
-
-pub map_ok : {A E : Type 0} {P Q : A → Type 0} (r : Result A E) → ((a : A) → P a → Q a) → IfOk r P → IfOk r Q
-map_ok (Ok a) f h = f a h
-map_ok (Err e) f h = h
 
 -- ---- one thing behind another
 

@@ -1,7 +1,8 @@
 -- What is found of a value goes on behind what was found so far.
-use Rattle.std.proofs.Common.{◌≡◌, ℕ, List, Bool, Option, Some, None, ℤ, ◌+◌, ◌<◌, ◌≤◌, ◌∷◌, [], ◌++◌, suc, length, get_or, drop, drop-cons, add-one, map, append_assoc, Result, IfOk, refl, ap, sym, subst, ◌∙◌}
+use Rattle.std.proofs.Common.{◌≡◌, ℕ, List, Bool, Option, Some, None, ℤ, ◌+◌, ◌<◌, ◌≤◌, ◌∷◌, [], ◌++◌, length, get_or, drop, map, append_assoc, Result, IfOk, refl, ap, sym, subst, ◌∙◌}
 use Rattle.std.proofs.lemmas.List.{drop_all}
-use Rattle.op_core.proofs.Nodes.{list_nodes}
+use Rattle.op_base.proofs.Tests.{map_ok}
+use Rattle.op_core.proofs.Nodes.{list_nodes, next_step}
 use Rattle.op_core.specs.Expression.{Expression, expression, root_of, expr_of, action_of, Steps, no_steps, steps, Action as Doing, convert, bracket, field, index, method, prefixed, operate, is, apply, copy}
 use Rattle.op_core.specs.Nodes.{steps_of}
 use Rattle.op_core.specs.Sizes.{type_at}
@@ -13,7 +14,7 @@ use Rattle.op_core.specs.declared.operation.Function.{Function}
 use Rattle.op_core.specs.declared.program.Core.{Core}
 use Rattle.op_core.specs.declared.types.CoreType.{CoreType}
 use Rattle.op_base.specs.declared.memory_error.NoMemory.{NoMemory}
-use Rattle.op_items.proofs.Behind.{adds_both, behind_behind, behind_none, map_ok, ok_as, ok_both}
+use Rattle.op_items.proofs.Behind.{adds_both, behind_behind, behind_none, ok_as, ok_both}
 use Rattle.op_items.specs.Adding.{Adds, Gives, env_view, found_view, two_on, view_in}
 use Rattle.op_items.specs.declared.found.Found.{Found as RustFound}
 use Rattle.op_items.specs.declared.item.Item.{Item}
@@ -187,9 +188,6 @@ find_begins setting old new f here e list i g =
     ap (λ xs. behind (view_in setting new) (find_steps env here of (steps_of xs) (found_view f))) i
     ∙ goes_on setting old new f (find_root env here of (root_of (out-CoreExpr e).root)) env here of (steps_of (out-CoreExpr e).steps.items) g
     ∙ ap (behind (view_in setting old)) (sym (find_is env here e))
-
-next_step : (list : List Step) (k : ℕ) (x : Step) → k < length list → x ≡ get_or list k x → steps_of (drop k list) ≡ steps (action_of x.action) x.of (steps_of (drop (k + 1) list))
-next_step list k x h e = rw add-one (ap steps_of (drop-cons list k x h) ∙ ap (λ y. steps (action_of y.action) y.of (steps_of (drop (suc k) list))) (sym e))
 
 pub find_goes_on : (setting : Setting) (mid new : List Item) (f f' : RustFound) (here : Here) (of : TypeId) (list : List Step) (k : ℕ) (x : Step) (end : Found) → k < length list → x ≡ get_or list k x → Gives setting mid new f' (find_step (env_view setting) here of (action_of x.action) x.of (found_view f)) → behind (view_in setting mid) (find_steps (env_view setting) here of (steps_of (drop k list)) (found_view f)) ≡ end → behind (view_in setting new) (find_steps (env_view setting) here x.of (steps_of (drop (k + 1) list)) (found_view f')) ≡ end
 find_goes_on setting mid new f f' here of list k x end h i g inv =

@@ -1,5 +1,5 @@
 -- What a row of items says is what the items of its list say.
-use Rattle.std.proofs.Common.{◌≡◌, ℕ, List, [], ◌∷◌, ◌++◌, refl, ap, sym, ◌∙◌}
+use Rattle.std.proofs.Common.{◌≡◌, ℕ, List, [], ◌∷◌, ◌++◌, refl, ap, sym, ◌∙◌, ap₂}
 use Rattle.std.specs.Prelude.{Vec}
 use mathlib.Core.Former.{Count}
 use Rattle.std.specs.declared.alloc.Global.{Global}
@@ -12,9 +12,6 @@ use Rattle.op_items.specs.declared.item.Item.TheVariants.{Also, Choose, Select, 
 use Rattle.op_items.specs.declared.item.Turns.{Turns}
 use Rattle.op_meaning.specs.Items.{also, choose, select, loop, body_first, protect, attempt, then_do, turns, cases, clauses, Clauses, no_clauses, for_others, ◌&◌}
 
-both : {A B C : Type 0} (f : A → B → C) {a a' : A} {b b' : B} → a ≡ a' → b ≡ b' → f a b ≡ f a' b'
-both f {a} {a'} {b} {b'} p q = ap (λ x. f x b) p ∙ ap (f a') q
-
 -- ---- rows
 
 item_list : (core : Core) (r : ℕ) (n : _) (row : Row_of-Item n) → item_row core r row ≡ items_view core r (items-the_row-Item n row)
@@ -23,11 +20,11 @@ item_list core r n (more_of-Item i rest) = ap (then_do (item_view core r i)) (it
 
 case_list : (core : Core) (r : ℕ) (n : _) (row : Row_of-Case n) → case_row core r row ≡ cases_view core r (items-the_row-Case n row)
 case_list core r n end_of-Case = refl
-case_list core r n (more_of-Case labels shape row rest) = both (cases labels) (item_list core r _ row ∙ ap (items_view core r) (sym (items_shown-the_row-Item-0 shape row))) (case_list core r _ rest)
+case_list core r n (more_of-Case labels shape row rest) = ap₂ (cases labels) (item_list core r _ row ∙ ap (items_view core r) (sym (items_shown-the_row-Item-0 shape row))) (case_list core r _ rest)
 
 clause_list : (core : Core) (r : ℕ) (n : _) (row : Row_of-Clause n) (last : Clauses) → clause_row core r row last ≡ clauses_view core r (items-the_row-Clause n row) last
 clause_list core r n end_of-Clause last = refl
-clause_list core r n (more_of-Clause class variable shape row rest) last = both (clauses class (variable_view variable)) (item_list core r _ row ∙ ap (items_view core r) (sym (items_shown-the_row-Item-0 shape row))) (clause_list core r _ rest last)
+clause_list core r n (more_of-Clause class variable shape row rest) last = ap₂ (clauses class (variable_view variable)) (item_list core r _ row ∙ ap (items_view core r) (sym (items_shown-the_row-Item-0 shape row))) (clause_list core r _ rest last)
 
 -- ---- the rows in items
 
@@ -76,19 +73,19 @@ by_clauses core r row cs last e = clause_list core r row.0 row.1 last ∙ ap (λ
 by_turns : (core : Core) (r : ℕ) (l : Turns) (a b c : Rows) → items-the_row-Item a.0 a.1 ≡ l.head.items → items-the_row-Item b.0 b.1 ≡ l.between.items → items-the_row-Item c.0 c.1 ≡ l.body.items → turns (item_row core r a.1) l.temporary.0 l.ends (item_row core r b.1) (item_row core r c.1) ≡ turns_view core r l
 by_turns core r l a b c p q s =
     ap (λ x. turns x l.temporary.0 l.ends (item_row core r b.1) (item_row core r c.1)) (by_items core r a l.head p)
-    ∙ both (turns (items_view core r l.head.items) l.temporary.0 l.ends) (by_items core r b l.between q) (by_items core r c l.body s)
+    ∙ ap₂ (turns (items_view core r l.head.items) l.temporary.0 l.ends) (by_items core r b l.between q) (by_items core r c l.body s)
 
 pub item_nodes : (core : Core) (r : ℕ) → ItemNodes core r
 item_nodes core r = record {
   also_says = λ truth t items. ap (also truth t.0) (by_items core r (first_in (Also truth t items)) items (items_hidden-the_row-Item-0 items));
-  choose_says = λ t first otherwise. both (choose t.0) (by_items core r (first_in (Choose t first otherwise)) first (items_hidden-the_row-Item-0 first)) (by_items core r (second_in (Choose t first otherwise)) otherwise (items_hidden-the_row-Item-0 otherwise));
-  select_says = λ t cs otherwise. both (select t.0) (let row = cases_in (Select t cs otherwise) in case_list core r row.0 row.1 ∙ ap (cases_view core r) (items_hidden-the_row-Case-1 cs)) (by_items core r (first_in (Select t cs otherwise)) otherwise (items_hidden-the_row-Item-0 otherwise));
+  choose_says = λ t first otherwise. ap₂ (choose t.0) (by_items core r (first_in (Choose t first otherwise)) first (items_hidden-the_row-Item-0 first)) (by_items core r (second_in (Choose t first otherwise)) otherwise (items_hidden-the_row-Item-0 otherwise));
+  select_says = λ t cs otherwise. ap₂ (select t.0) (let row = cases_in (Select t cs otherwise) in case_list core r row.0 row.1 ∙ ap (cases_view core r) (items_hidden-the_row-Case-1 cs)) (by_items core r (first_in (Select t cs otherwise)) otherwise (items_hidden-the_row-Item-0 otherwise));
   loop_says = λ l. ap loop (by_turns core r l (first_in (Loop l)) (second_in (Loop l)) (third_in (Loop l)) (items_hidden-the_row-Item-0 l.head) (items_hidden-the_row-Item-0 l.between) (items_hidden-the_row-Item-0 l.body));
   body_first_says = λ l. ap body_first (by_turns core r l (first_in (BodyFirst l)) (second_in (BodyFirst l)) (third_in (BodyFirst l)) (items_hidden-the_row-Item-0 l.head) (items_hidden-the_row-Item-0 l.between) (items_hidden-the_row-Item-0 l.body));
-  protect_says = λ t keep items finalization. both (protect t.0 keep) (by_items core r (first_in (Protect t keep items finalization)) items (items_hidden-the_row-Item-0 items)) (by_items core r (second_in (Protect t keep items finalization)) finalization (items_hidden-the_row-Item-0 finalization));
-  attempt_says = λ keep items cs. both (attempt keep) (by_items core r (first_in (Attempt keep items cs)) items (items_hidden-the_row-Item-0 items)) (by_clauses core r (clauses_in (Attempt keep items cs)) cs no_clauses (items_hidden-the_row-Clause-2 cs));
+  protect_says = λ t keep items finalization. ap₂ (protect t.0 keep) (by_items core r (first_in (Protect t keep items finalization)) items (items_hidden-the_row-Item-0 items)) (by_items core r (second_in (Protect t keep items finalization)) finalization (items_hidden-the_row-Item-0 finalization));
+  attempt_says = λ keep items cs. ap₂ (attempt keep) (by_items core r (first_in (Attempt keep items cs)) items (items_hidden-the_row-Item-0 items)) (by_clauses core r (clauses_in (Attempt keep items cs)) cs no_clauses (items_hidden-the_row-Clause-2 cs));
   attempt_all_says = λ keep items cs others.
-      both (attempt keep) (by_items core r (first_in (AttemptAll keep items cs others)) items (items_hidden-the_row-Item-0 items))
+      ap₂ (attempt keep) (by_items core r (first_in (AttemptAll keep items cs others)) items (items_hidden-the_row-Item-0 items))
       (by_clauses core r (clauses_in (AttemptAll keep items cs others)) cs (for_others (item_row core r (second_in (AttemptAll keep items cs others)).1)) (items_hidden-the_row-Clause-2 cs)
       ∙ ap (λ x. clauses_view core r cs.items (for_others x)) (by_items core r (second_in (AttemptAll keep items cs others)) others (items_hidden-the_row-Item-0 others)));
 }

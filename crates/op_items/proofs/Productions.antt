@@ -2,6 +2,7 @@
 use Rattle.std.proofs.Common.{◌≡◌, ℕ, suc, pos, ◌+◌, ◌<◌, ◌≤◌, List, [], ◌∷◌, ◌++◌, length, get_or, drop, drop-cons, add-one, map, append_assoc, append-nil, Bool, Vec, Option, Some, None, Result, IfOk, slice_get, refl, ap, sym, subst, ◌∙◌}
 use Rattle.std.proofs.lemmas.List.{drop_all, map-append}
 use Rattle.std.specs.declared.alloc.Global.{Global}
+use Rattle.op_base.proofs.Tests.{map_ok}
 use Rattle.op_base.specs.declared.memory_error.NoMemory.{NoMemory}
 use Rattle.op_core.specs.Expression.{Expression, Element as Member, one, range, Elements, elements, Argument, array, listed, Arguments, arguments, Expressions, Root, call, construct as constructed, set as bracketed, argument_of, element_of}
 use Rattle.op_core.specs.Nodes.{arguments_of, elements_of}
@@ -11,7 +12,7 @@ use Rattle.op_core.specs.declared.ids.ClassId.{ClassId}
 use Rattle.op_core.specs.declared.ids.RoutineId.{RoutineId}
 use Rattle.op_core.specs.declared.ids.TypeId.{TypeId}
 use Rattle.op_core.specs.declared.types.CoreType.{CoreType}
-use Rattle.op_items.proofs.Behind.{adds_both, adds_by, behind_behind, behind_none, map_ok, ok_as, ok_both}
+use Rattle.op_items.proofs.Behind.{adds_both, adds_by, behind_behind, behind_none, ok_as, ok_both}
 use Rattle.op_items.specs.Adding.{Adds, Gives, Passes, PassesAll, env_view, found_view, two_on, view_in}
 use Rattle.op_items.specs.declared.expression.Passed.{Passed}
 use Rattle.op_items.specs.declared.found.Found.{Found as RustFound}

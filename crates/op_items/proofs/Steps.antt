@@ -1,5 +1,6 @@
 -- The steps of a typed tree.
-use Rattle.std.proofs.Common.{◌≡◌, ℕ, List, [], ◌∷◌, ◌++◌, length, refl, ap, ◌∙◌, arith}
+use Rattle.std.proofs.Common.{◌≡◌, ℕ, List, [], ◌∷◌, ◌++◌, length, refl, ap, ◌∙◌}
+use Rattle.std.proofs.lemmas.List.{nil_from_length}
 use Rattle.op_core.proofs.Nodes.{list_nodes}
 use Rattle.op_core.specs.Expression.{expr_of}
 use Rattle.op_core.specs.Nodes.{steps_of}
@@ -18,11 +19,7 @@ type_behind e front x is =
     ∙ ap (λ xs. type_after (out-CoreExpr e).of (steps_of xs)) is
     ∙ last_after (out-CoreExpr e).of front x
 
-nothing : {A : Type 0} (xs : List A) → length xs ≡ 0 → xs ≡ []
-nothing [] h = refl
-nothing (x ∷ xs) h = absurd (omega (arith, h))
-
 pub type_alone : (e : CoreExpr) → length (out-CoreExpr e).steps.items ≡ 0 → type_of (expr_of e) ≡ (out-CoreExpr e).of
 type_alone e is =
     ap type_of (list_nodes.expr_says e)
-    ∙ ap (λ xs. type_after (out-CoreExpr e).of (steps_of xs)) (nothing (out-CoreExpr e).steps.items is)
+    ∙ ap (λ xs. type_after (out-CoreExpr e).of (steps_of xs)) (nil_from_length (out-CoreExpr e).steps.items is)

@@ -1,8 +1,9 @@
 -- Parts that break no rule, and what comes behind them.
 use Rattle.std.proofs.Common.{◌≡◌, inl, inr, ◌&&◌, Bool, true, false, refl, sym, ap, ◌∙◌}
 use Rattle.std.proofs.lemmas.Bool.{and_parts}
+use Rattle.std.proofs.lemmas.Option.{none-some}
 use Rattle.op_base.specs.declared.rule.Refusal.{Refusal}
-use Rattle.op_core.proofs.Agreeing.{lists_both, none_is}
+use Rattle.op_core.proofs.Agreeing.{lists_both}
 use Rattle.op_core.specs.Faults.{Faults, none, one, both, IsIn, here, front, behind}
 use Rattle.op_core.specs.Relations.{Either, Holds, Lists, NoneBroken, Where}
 use Rattle.op_judgement.specs.Given.{Given, is_clear, unless, unless_faulty}
@@ -35,7 +36,7 @@ holds_unless {S} {A} {B} g f {T} {P} l k = by_test (is_clear g.faults) refl
   where
     by_test : (b : Bool) → is_clear g.faults ≡ b → Holds (unless b g f).typed (Where (NoneBroken P) T)
     by_test true e b = (λ t. (none_broken g.faults P l e, (k b).0 t), λ s. (k b).1 s.1)
-    by_test false e b = (λ t. absurd (none_is t), λ s. absurd (some_broken g.faults P l e s.0))
+    by_test false e b = (λ t. absurd (none-some _ t), λ s. absurd (some_broken g.faults P l e s.0))
 
 pub lists_unless : {S A B : Type 0} (g : Given S A) (f : S → Given S B) {P Q : Refusal → Type 0} → Lists g.faults P → Lists (f g.here).faults Q → Lists (unless_faulty g f).faults (Either P (Where (NoneBroken P) Q))
 lists_unless {S} {A} {B} g f {P} {Q} l k = by_test (is_clear g.faults) refl

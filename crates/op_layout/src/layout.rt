@@ -1,5 +1,5 @@
 //! Where constants stand.
-ghost use Rattle.std.specs.Prelude.{◌≡◌, IfOk};
+ghost use Rattle.std.specs.Prelude.{◌≡◌, IfOk, map};
 ghost use Rattle.op_layout.specs.Places.{layout_of};
 
 use op_base::{NoMemory, Sequence, Text};
@@ -30,17 +30,17 @@ pub struct Layout {
 
 impl Layout {
     /// The literals one after the other, without tables or descriptors.
-    pub fn of_literals(alloc: Global, literals: &[Text]) -> Result<Layout, NoMemory>
-        ensures { IfOk result (λ layout. layout ≡ layout_of literals.now) }
+    pub fn of_literals(alloc: Global, literals: &[Vec<u8>]) -> Result<Layout, NoMemory>
+        ensures { IfOk result (λ layout. layout ≡ layout_of (map (λ literal. literal.items) literals.now)) }
     {
         let mut bytes = Vec::new(alloc);
         let mut places = Vec::new(alloc);
         for literal in literals {
             places.push(LiteralPlace {
                 offset: bytes.len(),
-                length: literal.as_slice().len(),
+                length: literal.len(),
             })?;
-            bytes.extend_from_slice(literal.as_slice())?;
+            bytes.extend_from_slice(literal)?;
         }
         Ok(Layout {
             bytes: Text::from(bytes),

@@ -79,12 +79,12 @@ code_end known routines = routines_grow known 0 first_spot routines
 
 -- ---- at most the longest form
 
-branch_at_most : (reach : Reach) → branch_size reach ≤ 12
+pub branch_at_most : (reach : Reach) → branch_size reach ≤ 12
 branch_at_most Direct = omega arith
 branch_at_most OverJump = omega arith
 branch_at_most ByRegister = omega arith
 
-jump_at_most : (reach : Reach) → jump_size reach ≤ 8
+pub jump_at_most : (reach : Reach) → jump_size reach ≤ 8
 jump_at_most Direct = omega arith
 jump_at_most OverJump = omega arith
 jump_at_most ByRegister = omega arith

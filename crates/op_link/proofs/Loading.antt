@@ -1,8 +1,7 @@
 -- A linked image is loaded as it was meant.
-use Rattle.std.proofs.Common.{◌≡◌, ℕ, ◌+◌, ◌-◌, ◌*◌, ◌≤◌, inl, inr, true, IsTrue, nat_lt, nat_le, Option, Some, None, List, [], ◌∷◌, ◌++◌, length, take, drop, replicate, refl, ap, sym, ◌∙◌, subst, arith, append_assoc, length-append}
-use Rattle.std.proofs.lemmas.Bool.{and_parts, cases_Bool, leb-true}
+use Rattle.std.proofs.Common.{◌≡◌, ℕ, ◌+◌, ◌-◌, ◌*◌, ◌≤◌, true, IsTrue, nat_lt, nat_le, Option, Some, None, List, [], ◌++◌, length, take, drop, replicate, refl, ap, sym, ◌∙◌, subst, arith, append_assoc, length-append}
+use Rattle.std.proofs.lemmas.Bool.{and_parts, leb-true}
 use Rattle.std.proofs.lemmas.List.{drop_at, length-replicate, take_all, take_at}
-use Rattle.std.proofs.lemmas.List.Sums.{sum_by-cons}
 use Rattle.std.specs.List.{list_all}
 use Rattle.std.specs.Option.{option_map}
 use Rattle.op_layout.specs.declared.layout.Layout.{Layout}
@@ -13,7 +12,7 @@ use Rattle.op_link.specs.declared.memory_map.Settings.{Settings}
 use Rattle.op_link.specs.declared.memory_map.Sizes.{Sizes}
 use Rattle.op_link.specs.declared.place.RoutinePlace.{RoutinePlace}
 use Rattle.op_link.specs.Code.{routine_has_fields, words_of}
-use Rattle.op_link.specs.Memory.{are_in_range, begins_as_zero, constants_address, constants_size, global_size, globals_address, globals_size, initial_bytes, initial_size, most_linked, segments_of, zero_part, zero_size}
+use Rattle.op_link.specs.Memory.{are_in_range, constants_address, constants_size, globals_address, globals_size, initial_bytes, initial_size, most_linked, segments_of, zero_size}
 use Rattle.op_link.specs.Placing.{first_spot, placement_by, routine_places}
 use Rattle.op_link.specs.Linking.{addresses_of, all_names_exist, code_padding, constants_bytes, constants_padding, data_bytes, file_header, front_bytes, image_by, image_bytes, is_linkable, linked_size_by, longest, program_code, program_headers, settled, sizes_of}
 use Rattle.op_link.specs.Loaded.{HasCode, HasCodeBy, IsLoaded, addresses_by, linked_sizes, sizes_by}
@@ -40,15 +39,8 @@ linkable objects layout is =
     let one = and_parts (nat_lt objects.entry.0 (length objects.routines)) (nat_le (globals_size objects.globals) 15728640) two.0 in
     record { small = leb-true (globals_size objects.globals) 15728640 one.1; fields = two.1 }
 
-zero_at_most : (global : GlobalVariable) → zero_part global ≤ global_size global
-unfolding zero_part
-zero_at_most global =
-    elim (cases_Bool (begins_as_zero global)) [ inl zero ↦ simp zero (omega arith) | inr own ↦ simp own (omega arith) ]
-
 pub zeros_at_most : (globals : List GlobalVariable) → zero_size globals ≤ globals_size globals
-zeros_at_most [] = omega arith
-zeros_at_most (global ∷ globals) =
-    omega (arith, zero_at_most global, zeros_at_most globals, sum_by-cons zero_part global globals, sum_by-cons global_size global globals)
+zeros_at_most globals = omega arith
 
 -- ---- one attempt
 

@@ -1,5 +1,5 @@
 -- If every item has its longest form, nothing is out of reach.
-use Rattle.std.proofs.Common.{◌≡◌, ℕ, zero, suc, ◌+◌, ◌<◌, ◌≤◌, ◌^◌, true, Option, Some, None, IsTrue, List, [], ◌∷◌, length, is_some, slice_get, nat_lt, refl, ap, ◌∙◌, subst, arith, add-zero}
+use Rattle.std.proofs.Common.{◌≡◌, ℕ, zero, suc, ◌+◌, ◌<◌, ◌≤◌, ◌^◌, true, Option, Some, None, IsTrue, List, [], ◌∷◌, length, is_some, slice_get, nat_lt, refl, ap, ◌∙◌, subst, arith, add-zero, false}
 use Rattle.std.proofs.lemmas.Bool.{and_parts, ltb-true, false≢true}
 use Rattle.std.proofs.lemmas.Bool.Decides.{nat_tests}
 use Rattle.std.specs.List.{list_all}
@@ -27,7 +27,7 @@ use Rattle.op_link.specs.declared.reach.Reach.TheVariants.{ByRegister}
 use Rattle.op_link.specs.Reach.{reach_of, branch_reach, jump_reach, block_in, head_in}
 use Rattle.op_link.specs.Placing.{behind, behind_items, behind_routine, block_addresses, routine_place, routine_places, first_spot, placement_by}
 use Rattle.op_link.specs.Code.{address_at, address_of_place, symbol_address, then_code, code_at, jump_code, branch_code, item_code, items_code, blocks_code, routine_code, routines_code}
-use Rattle.op_link.specs.Memory.{constants_address, constants_size, globals_address, global_addresses, initial_part, zero_part, most_linked}
+use Rattle.op_link.specs.Memory.{constants_address, constants_size, globals_address, addresses_from, behind_global, global_addresses, initial_size, most_linked}
 use Rattle.op_link.specs.Linking.{addresses_of, program_code, lies_within, has_symbol, names_exist, all_names_exist, image_by, is_linkable, linked_size_by, sizes_of, start_code}
 
 -- ---- options
@@ -154,10 +154,10 @@ length-routine_places known r spot [] = refl
 length-routine_places known r spot (routine ∷ routines) =
     ap suc (length-routine_places known (suc r) (behind_routine known r spot routine) routines)
 
-length-global_addresses : (own other : ℕ) (globals : List GlobalVariable) → length (global_addresses own other globals) ≡ length globals
-length-global_addresses own other [] = refl
-length-global_addresses own other (global ∷ globals) =
-    ap suc (length-global_addresses (own + initial_part global) (other + zero_part global) globals)
+length-addresses : (start own other : ℕ) (globals : List GlobalVariable) → length (addresses_from start own other globals) ≡ length globals
+length-addresses start own other [] = refl
+length-addresses start own other (global ∷ globals) =
+    ap suc (length-addresses start (behind_global false own global) (behind_global true other global) globals)
 
 has_blocks_at : (known : List RoutinePlace) (r : ℕ) (spot : Spot) (routines : List ObjectRoutine) (k : ℕ) (routine : ObjectRoutine) → slice_get routines k ≡ Some routine → (block : ℕ) → block < length routine.blocks → is_some (block_in (routine_places known r spot routines) k block) ≡ true
 unfolding block_in routine_place
@@ -190,8 +190,8 @@ symbols_there objects layout sizes room (Descriptor id) named =
     place_there layout (constants_address sizes) (slice_get layout.descriptors id.0) room named
 symbols_there objects layout sizes room (Global id) named =
     let inside = ltb-true id.0 (length objects.globals) named in
-    let same = length-global_addresses (globals_address sizes) (globals_address sizes + sizes.initial) objects.globals in
-    some_within (global_addresses (globals_address sizes) (globals_address sizes + sizes.initial) objects.globals) id.0 (omega (arith, inside, same))
+    let same = length-addresses (globals_address sizes) 0 (initial_size objects.globals) objects.globals in
+    some_within (global_addresses (globals_address sizes) objects.globals) id.0 (omega (arith, inside, same))
 symbols_there objects layout sizes room (Routine id) named =
     heads_there objects sizes id.0 (ltb-true id.0 (length objects.routines) named)
 

@@ -1,8 +1,7 @@
 -- The segments of a linked image lie where they may.
-use Rattle.std.proofs.Common.{◌≡◌, ℕ, suc, ◌+◌, ◌-◌, ◌*◌, ◌/◌, ◌<◌, ◌≤◌, inl, inr, Bool, true, ◌||◌, IsTrue, nat_le, List, [], ◌∷◌, ◌++◌, length, drop, map, replicate, refl, ap, arith, length-append}
-use Rattle.std.proofs.lemmas.Bool.{and_parts, leb-true, lt-ltb, cases_Bool}
+use Rattle.std.proofs.Common.{◌≡◌, ℕ, suc, ◌+◌, ◌-◌, ◌*◌, ◌<◌, ◌≤◌, Bool, true, ◌||◌, IsTrue, nat_le, List, [], ◌∷◌, ◌++◌, length, drop, map, replicate, refl, ap, arith, length-append}
+use Rattle.std.proofs.lemmas.Bool.{and_parts, leb-true, lt-ltb}
 use Rattle.std.proofs.lemmas.List.{length-replicate, length-map}
-use Rattle.std.proofs.lemmas.List.Sums.{sum_by-cons}
 use Rattle.std.specs.List.{list_any}
 use Rattle.op_layout.specs.declared.layout.Layout.{Layout}
 use Rattle.op_rv.specs.declared.objects.GlobalVariable.{GlobalVariable}
@@ -12,8 +11,9 @@ use Rattle.op_link.specs.declared.memory_map.Sizes.{Sizes}
 use Rattle.op_link.specs.declared.place.RoutinePlace.{RoutinePlace}
 use Rattle.op_link.specs.declared.table.Segment.{Segment}
 use Rattle.op_link.specs.Image.{has_entry}
-use Rattle.op_link.specs.Memory.{are_in_range, segments_of, constants_address, constants_size, globals_address, stack_address, most_linked, global_size, global_bytes, begins_as_zero, initial_part, initial_size, initial_bytes}
+use Rattle.op_link.specs.Memory.{are_in_range, segments_of, constants_address, constants_size, globals_address, stack_address, most_linked, initial_size, initial_bytes}
 use Rattle.op_link.specs.Linking.{file_header, program_header, program_headers, front_bytes, data_bytes, constants_bytes, code_padding, constants_padding, entry_word, words, linked_size_of}
+use Rattle.op_link.proofs.GlobalPlaces.{length-bytes_of_globals}
 use Rattle.op_link.proofs.Loads.{Fit, length-program_header}
 
 -- ---- addresses
@@ -119,15 +119,8 @@ unfolding constants_bytes
 length-constants layout routines =
     omega (arith, length-append layout.bytes (words (map (entry_word routines) layout.entries)), length-words (map (entry_word routines) layout.entries), length-map layout.entries (entry_word routines))
 
-pub length-global_bytes : (global : GlobalVariable) → length (global_bytes global) ≡ initial_part global
-unfolding global_bytes initial_part global_size
-length-global_bytes global =
-    elim (cases_Bool (begins_as_zero global)) [ inl zero ↦ simp zero refl | inr own ↦ simp own (omega (arith, length-append global.initial (replicate ((length global.initial + global.zeros + 3) / 4 * 4 - length global.initial) 0), length-replicate {A = ℕ} ((length global.initial + global.zeros + 3) / 4 * 4 - length global.initial) 0)) ]
-
 pub length-initial : (globals : List GlobalVariable) → length (initial_bytes globals) ≡ initial_size globals
-length-initial [] = refl
-length-initial (global ∷ globals) =
-    omega (arith, length-append (global_bytes global) (initial_bytes globals), length-global_bytes global, length-initial globals, sum_by-cons initial_part global globals)
+length-initial globals = let long = length-bytes_of_globals 0 globals in omega arith
 
 pub length-data : (layout : Layout) (objects : Objects) (sizes : Sizes) (routines : List RoutinePlace) → sizes.constants ≡ constants_size layout → sizes.initial ≡ initial_size objects.globals → sizes.code + length (data_bytes layout objects sizes routines) ≡ globals_address sizes - 0x00010000 + sizes.initial
 unfolding data_bytes code_padding constants_padding

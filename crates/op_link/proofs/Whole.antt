@@ -1,6 +1,7 @@
 -- What images that meet the conditions have.
-use Rattle.std.proofs.Common.{◌≡◌, ℕ, ◌+◌, ◌*◌, ◌<◌, Bool, true, false, ◌&&◌, nat_eq, None, List, [], ◌∷◌, get_or, map, refl, ap, sym, ◌∙◌, arith}
+use Rattle.std.proofs.Common.{◌≡◌, ℕ, ◌+◌, ◌*◌, ◌<◌, Bool, true, false, nat_eq, None, List, [], ◌∷◌, get_or, map, refl, ap, sym, ◌∙◌, arith}
 use Rattle.std.proofs.lemmas.List.Recursion.{and_at}
+use Rattle.std.specs.Cmp.{first_so, second_so}
 use Rattle.std.specs.List.{list_all}
 use Rattle.op_link.specs.Region.{are_apart}
 use Rattle.op_link.proofs.Headers.{length-headers_from, get_or-headers_from}
@@ -47,19 +48,13 @@ whole image is =
       entry = all.8;
     }
 
-and_left : (a b : Bool) → (a && b) ≡ true → a ≡ true
-and_left a b h = grind arith
-
-and_right : (a b : Bool) → (a && b) ≡ true → b ≡ true
-and_right a b h = grind arith
-
 -- each segment has its bytes in the file
 pub has_file_bytes-at : (image : List ℕ) (k : ℕ) → first_failing image ≡ None → k < number_in image → has_file_bytes image (segment_at image (52 + 32 * k)) ≡ true
 unfolding has_loadable_segments
 has_file_bytes-at image k is below =
     let d = header_at image 0 in
     let long = length-headers_from image 52 (number_in image) in
-    let all = and_left _ (are_apart (map memory_range (segments image))) (whole image is).segments in
+    let all = first_so _ (are_apart (map memory_range (segments image))) (whole image is).segments in
     let here = and_at (list_all (is_loadable image)) (is_loadable image) refl (λ _ _. refl) (headers image) k d (omega arith) all in
     ap (λ h. has_file_bytes image h.segment) (sym (get_or-headers_from image 52 (number_in image) k d below))
-    ∙ and_right (nat_eq (get_or (headers image) k d).kind 1) _ here
+    ∙ second_so (nat_eq (get_or (headers image) k d).kind 1) _ here

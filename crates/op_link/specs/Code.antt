@@ -157,7 +157,9 @@ unfoldable pub has_fields : Item → Bool
 has_fields (Plain i) = fits i
 has_fields (Address rd symbol) = is_register rd
 has_fields (Branch op left right block) = is_register left && is_register right
-has_fields _ = true
+has_fields (Jump block) = true
+has_fields (Call routine landing) = true
+has_fields (CallAt landing) = true
 
 abbrev pub have_fields : List Item → Bool
 have_fields items = list_all has_fields items

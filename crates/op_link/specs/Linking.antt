@@ -6,7 +6,7 @@ use Rattle.byteorder.specs.Endian.{little_bytes}
 use Rattle.op_layout.specs.declared.layout.Layout.{Layout}
 use Rattle.op_rv.specs.declared.instruction.Instr.{Instr}
 use Rattle.op_rv.specs.declared.objects.Item.{Item}
-use Rattle.op_rv.specs.declared.objects.Item.TheVariants.{Address, Branch, Jump, Call}
+use Rattle.op_rv.specs.declared.objects.Item.TheVariants.{Plain, Address, Branch, Jump, Call, CallAt}
 use Rattle.op_rv.specs.declared.objects.ObjectRoutine.{ObjectRoutine}
 use Rattle.op_rv.specs.declared.objects.Objects.{Objects}
 use Rattle.op_rv.specs.declared.symbol.RoutineId.{RoutineId}
@@ -86,7 +86,7 @@ addresses_of known routines sizes objects =
       known = known;
       routines = routines;
       constants = constants_address sizes;
-      globals = global_addresses (globals_address sizes) (globals_address sizes + sizes.initial) objects.globals;
+      globals = global_addresses (globals_address sizes) objects.globals;
     }
 
 -- the zeros between the code and the constants, and between the constants and the globals
@@ -166,11 +166,12 @@ has_symbol objects layout (Routine id) = nat_lt id.0 (length objects.routines)
 
 -- what an item of a routine of so many blocks names is there
 unfoldable pub names_exist : Objects → Layout → ℕ → Item → Bool
+names_exist objects layout blocks (Plain i) = true
 names_exist objects layout blocks (Address rd symbol) = has_symbol objects layout symbol
 names_exist objects layout blocks (Branch op left right block) = nat_lt block.0 blocks
 names_exist objects layout blocks (Jump block) = nat_lt block.0 blocks
 names_exist objects layout blocks (Call routine landing) = nat_lt routine.0 (length objects.routines)
-names_exist objects layout blocks _ = true
+names_exist objects layout blocks (CallAt landing) = true
 
 abbrev pub all_names_exist : Objects → Layout → ObjectRoutine → Bool
 all_names_exist objects layout routine =
@@ -179,7 +180,7 @@ all_names_exist objects layout routine =
     (λ block. list_all (names_exist objects layout (length routine.blocks)) block.items)
     routine.blocks
 
--- the entry is there, the globals take at most 15,728,640 bytes, instructions have words, and what is named is there
+-- the entry is there, the globals take at most 15,728,640 bytes, with those between them, instructions have words, and what is named is there
 unfoldable pub is_linkable : Objects → Layout → Bool
 is_linkable objects layout =
     nat_lt objects.entry.0 (length objects.routines)

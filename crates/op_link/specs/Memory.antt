@@ -1,58 +1,89 @@
 -- Where the parts of a program lie in memory.
-use Rattle.std.specs.Prelude.{ℕ, ◌+◌, ◌-◌, ◌*◌, ◌/◌, ◌%◌, ◌≤◌, ◌⊎◌, Bool, ◌&&◌, List, [], ◌∷◌, ◌++◌, length, replicate, nat_eq, nat_le, if◌then◌else◌}
-use Rattle.std.specs.List.{flat_map, sum_by}
+use Rattle.std.specs.Prelude.{ℕ, ◌+◌, ◌-◌, ◌*◌, ◌/◌, ◌%◌, ◌≤◌, ◌⊎◌, Bool, true, false, not, ◌&&◌, Option, Some, None, List, [], ◌∷◌, ◌++◌, length, replicate, nat_eq, nat_le, if◌then◌else◌}
+use Rattle.std.specs.List.{fold}
 use Rattle.op_layout.specs.declared.layout.Layout.{Layout}
 use Rattle.op_rv.specs.declared.objects.GlobalVariable.{GlobalVariable}
 use Rattle.op_link.specs.declared.memory_map.Settings.{Settings}
 use Rattle.op_link.specs.declared.memory_map.Sizes.{Sizes}
 use Rattle.op_link.specs.declared.table.Segment.{Segment}
 
--- ---- global variables: each begins at a multiple of 4; those that begin as zero stand behind the others
+-- ---- global variables: those with bytes of their own lie one behind the other in one stretch, and those that begin as zero in another one
+-- behind it. Where they lie is told by offsets from the beginning of the first stretch, which is at a multiple of 4.
 
 -- the bytes of a variable
 abbrev pub variable_size : GlobalVariable → ℕ
 variable_size global = length global.initial + global.zeros
 
--- the same up to a multiple of 4
-unfoldable pub global_size : GlobalVariable → ℕ
-global_size global = (variable_size global + 3) / 4 * 4
+-- the next multiple of an alignment, an offset itself if it is one
+abbrev pub next_multiple : (alignment from : ℕ) → ℕ
+next_multiple alignment from = (from + (alignment - 1)) / alignment * alignment
+
+-- Where so many bytes begin that come at an offset or behind it: at a multiple of 4 if their number is one, at an even offset if it is even,
+-- and else there. So they lie at a multiple of the alignment of their type, which divides its size.
+unfoldable pub begin_by : (size from : ℕ) → ℕ
+begin_by size from =
+    if nat_eq size 0 then from
+    else if nat_eq (size % 4) 0 then next_multiple 4 from
+    else if nat_eq (size % 2) 0 then next_multiple 2 from
+    else from
+
+abbrev pub begin_of : ℕ → GlobalVariable → ℕ
+begin_of from global = begin_by (variable_size global) from
 
 unfoldable pub begins_as_zero : GlobalVariable → Bool
 begins_as_zero global = nat_eq (length global.initial) 0
 
-unfoldable pub initial_part : GlobalVariable → ℕ
-initial_part global = if begins_as_zero global then 0 else global_size global
+-- whether it lies in the stretch of those that begin as zero, or of the others
+unfoldable pub lies_in : (as_zero : Bool) → GlobalVariable → Bool
+lies_in as_zero global = if as_zero then begins_as_zero global else not (begins_as_zero global)
 
-unfoldable pub zero_part : GlobalVariable → ℕ
-zero_part global = if begins_as_zero global then global_size global else 0
+-- the offset behind a variable in either stretch
+unfoldable pub behind_global : (as_zero : Bool) → ℕ → GlobalVariable → ℕ
+behind_global as_zero from global =
+    if lies_in as_zero global then begin_of from global + variable_size global else from
+
+abbrev pub behind_globals : (as_zero : Bool) → ℕ → List GlobalVariable → ℕ
+behind_globals as_zero from globals = fold (behind_global as_zero) from globals
+
+-- the bytes of the first stretch, of both, and of the second one
+abbrev pub initial_size : List GlobalVariable → ℕ
+initial_size globals = behind_globals false 0 globals
 
 abbrev pub globals_size : List GlobalVariable → ℕ
-globals_size globals = sum_by global_size globals
-
-abbrev pub initial_size : List GlobalVariable → ℕ
-initial_size globals = sum_by initial_part globals
+globals_size globals = behind_globals true (initial_size globals) globals
 
 abbrev pub zero_size : List GlobalVariable → ℕ
-zero_size globals = sum_by zero_part globals
+zero_size globals = globals_size globals - initial_size globals
 
--- the address of each one, from the next address of either kind on
-abbrev pub global_addresses : ℕ → ℕ → List GlobalVariable → List ℕ
-global_addresses own other [] = []
-global_addresses own other (global ∷ globals) =
-    (if begins_as_zero global then other else own)
-    ∷ global_addresses (own + initial_part global) (other + zero_part global) globals
+-- the address of each one, if the first stretch begins there, from the next offset in either stretch on
+abbrev pub addresses_from : (start own other : ℕ) → List GlobalVariable → List ℕ
+addresses_from start own other [] = []
+addresses_from start own other (global ∷ globals) =
+    (start + begin_of (if begins_as_zero global then other else own) global)
+    ∷ addresses_from start (behind_global false own global) (behind_global true other global) globals
+
+abbrev pub global_addresses : ℕ → List GlobalVariable → List ℕ
+global_addresses start globals = addresses_from start 0 (initial_size globals) globals
+
+-- a number, if it is within what all variables may take
+unfoldable pub if_small : ℕ → Option ℕ
+if_small n = if nat_le n 15728640 then Some n else None
 
 -- of two stretches of memory one ends before the other one begins
 abbrev pub LieApart : (at size other_at other_size : ℕ) → Type 0
 LieApart at size other_at other_size = (at + size ≤ other_at) ⊎ (other_at + other_size ≤ at)
 
--- what the file has of them
-unfoldable pub global_bytes : GlobalVariable → List ℕ
-global_bytes global =
-    if begins_as_zero global then [] else global.initial ++ replicate (global_size global - length global.initial) 0
+-- what the file has of a variable that comes at an offset or behind it, with the zeros in front of it
+unfoldable pub global_bytes : ℕ → GlobalVariable → List ℕ
+global_bytes from global =
+    if begins_as_zero global then [] else replicate (begin_of from global - from) 0 ++ global.initial ++ replicate global.zeros 0
+
+abbrev pub bytes_of_globals : ℕ → List GlobalVariable → List ℕ
+bytes_of_globals from [] = []
+bytes_of_globals from (global ∷ globals) = global_bytes from global ++ bytes_of_globals (behind_global false from global) globals
 
 abbrev pub initial_bytes : List GlobalVariable → List ℕ
-initial_bytes globals = flat_map global_bytes globals
+initial_bytes globals = bytes_of_globals 0 globals
 
 -- ---- segments
 

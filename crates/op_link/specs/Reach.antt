@@ -31,10 +31,12 @@ jump_reach from (Some to) = if reaches 1048576 from to then Direct else ByRegist
 
 -- an item of the routine r
 unfoldable pub reach_of : List RoutinePlace → ℕ → ℕ → Item → Reach
+reach_of known r from (Plain i) = Direct
+reach_of known r from (Address rd symbol) = Direct
 reach_of known r from (Branch op left right block) = branch_reach from (block_in known r block.0)
 reach_of known r from (Jump block) = jump_reach from (block_in known r block.0)
 reach_of known r from (Call routine landing) = jump_reach from (head_in known routine.0)
-reach_of known r from _ = Direct
+reach_of known r from (CallAt landing) = Direct
 
 -- ---- bytes
 

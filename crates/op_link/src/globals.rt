@@ -1,9 +1,12 @@
 //! Where global variables lie, and what the file has of them.
-ghost use Rattle.std.specs.Prelude.{◌≡◌, ◌+◌, ◌-◌, ◌^◌, ◌<◌, ◌≤◌, ◌++◌, IfOk, OnOk, if◌then◌else◌, length, replicate};
-ghost use Rattle.op_link.specs.Memory.{begins_as_zero, global_addresses, global_bytes, global_size, globals_size, initial_bytes, initial_part, initial_size, zero_part, zero_size};
+ghost use Rattle.std.specs.Prelude.{◌≡◌, ◌+◌, ◌-◌, ◌^◌, ◌<◌, ◌≤◌, ◌++◌, false, true, IfOk, OnOk, None, Some, if◌then◌else◌, nat_le, replicate};
+ghost use Rattle.op_link.specs.Memory.{begin_by, begin_of, begins_as_zero, behind_global, behind_globals, global_addresses, global_bytes, globals_size, initial_bytes, if_small, initial_size, lies_in, variable_size, zero_size};
 
 use op_rv::GlobalVariable;
 use std::alloc::{AllocError, Global};
+
+/// The most bytes that all global variables may take.
+const MOST_GLOBALS: u32 = 15_728_640;
 
 /// Whether the variable begins with no bytes of its own.
 #[tactic(auto, unfolding(crate::specs::Memory::begins_as_zero))]
@@ -13,99 +16,172 @@ fn begins_as_zero(global: &GlobalVariable) -> bool
     global.initial.as_slice().len() == 0
 }
 
-/// The bytes of a variable, up to a multiple of 4.
-#[tactic(auto, unfolding(crate::specs::Memory::global_size))]
-fn global_size(global: &GlobalVariable) -> u32
-    requires { global_size global.now ≤ 15728640 }
-    ensures { result ≡ global_size global.now }
+/// Whether it lies among those that begin as zero, or among the others.
+#[tactic(auto, unfolding(crate::specs::Memory::lies_in))]
+fn lies_in(as_zero: bool, global: &GlobalVariable) -> bool
+    ensures { result ≡ lies_in as_zero global.now }
 {
-    let size = global.initial.as_slice().len() as u32 + global.zeros;
-    (size + 3) / 4 * 4
-}
-
-/// Its bytes among those that begin with bytes of their own.
-#[tactic(auto, unfolding(crate::specs::Memory::initial_part))]
-fn initial_part(global: &GlobalVariable) -> u32
-    requires { global_size global.now ≤ 15728640 }
-    ensures is { result ≡ initial_part global.now }
-    ensures bound { result ≤ global_size global.now }
-{
-    if begins_as_zero(global) {
-        return 0;
+    if as_zero {
+        return begins_as_zero(global);
     }
-    global_size(global)
+    !begins_as_zero(global)
 }
 
-/// Its bytes among those that begin as zero.
-#[tactic(auto, unfolding(crate::specs::Memory::zero_part))]
-fn zero_part(global: &GlobalVariable) -> u32
-    requires { global_size global.now ≤ 15728640 }
-    ensures is { result ≡ zero_part global.now }
-    ensures bound { result ≤ global_size global.now }
+/// Where so many bytes begin that come at an offset or behind it.
+#[tactic(auto, unfolding(crate::specs::Memory::begin_by))]
+fn begin_by(size: u32, from: u32) -> u32
+    requires { from ≤ 15728640 }
+    ensures { result ≡ begin_by size from }
 {
-    if begins_as_zero(global) {
-        return global_size(global);
+    if size == 0 {
+        return from;
     }
-    0
+    if size % 4 == 0 {
+        return (from + 3) / 4 * 4;
+    }
+    if size % 2 == 0 {
+        return (from + 1) / 2 * 2;
+    }
+    from
 }
 
-/// The bytes of all variables that begin with bytes of their own.
+/// The offset behind a variable that comes at an offset or behind it, if it is within what all may take.
+#[tactic(auto, unfolding(crate::specs::Memory::if_small))]
+fn end_of(from: u32, global: &GlobalVariable) -> Option<u32>
+    requires { from ≤ 15728640 }
+    ensures { result ≡ if_small (begin_of from global.now + variable_size global.now) }
+{
+    let initial = global.initial.as_slice().len();
+    if initial > MOST_GLOBALS as usize || global.zeros > MOST_GLOBALS {
+        return None;
+    }
+    let size = initial as u32 + global.zeros;
+    let end = begin_by(size, from) + size;
+    if end > MOST_GLOBALS {
+        return None;
+    }
+    Some(end)
+}
+
+/// The offset behind a variable in either stretch, if it is within what all may take.
+#[tactic(auto, unfolding(crate::specs::Memory::behind_global, crate::specs::Memory::if_small))]
+fn behind_within(as_zero: bool, from: u32, global: &GlobalVariable) -> Option<u32>
+    requires { from ≤ 15728640 }
+    ensures { result ≡ if_small (behind_global as_zero from global.now) }
+{
+    if lies_in(as_zero, global) {
+        return end_of(from, global);
+    }
+    Some(from)
+}
+
+/// The offset behind variables in either stretch, if it is within what all may take.
+#[tactic(auto, unfolding(crate::specs::Memory::if_small))]
+fn end_within(as_zero: bool, from: u32, globals: &[GlobalVariable]) -> Option<u32>
+    requires { from ≤ 15728640 }
+    ensures { result ≡ if_small (behind_globals as_zero from globals.now) }
+{
+    let mut end = from;
+    for global in globals {
+        match behind_within(as_zero, end, global) {
+            None => return None,
+            Some(next) => end = next,
+        }
+    }
+    Some(end)
+}
+
+/// Whether all global variables take no more than they may: 15,728,640 bytes.
+#[tactic(auto, unfolding(crate::specs::Memory::if_small))]
+pub fn are_small(globals: &[GlobalVariable]) -> bool
+    ensures { result ≡ nat_le (globals_size globals.now) 15728640 }
+{
+    match end_within(false, 0, globals) {
+        None => false,
+        Some(own) => end_within(true, own, globals).is_some(),
+    }
+}
+
+/// The bytes of all variables that begin with bytes of their own, with those between them.
+#[tactic(auto, unfolding(crate::specs::Memory::if_small))]
 pub(crate) fn initial_size(globals: &[GlobalVariable]) -> u32
     requires { globals_size globals.now ≤ 15728640 }
     ensures is { result ≡ initial_size globals.now }
     ensures bound { result ≤ globals_size globals.now }
 {
-    let mut size = 0;
-    for global in globals {
-        size += initial_part(global);
+    match end_within(false, 0, globals) {
+        None => unreachable!(),
+        Some(size) => size,
     }
-    size
 }
 
-/// The bytes of all variables that begin as zero.
+/// The bytes of all variables that begin as zero, with those between them.
+#[tactic(auto, unfolding(crate::specs::Memory::if_small))]
 pub(crate) fn zero_size(globals: &[GlobalVariable]) -> u32
     requires { globals_size globals.now ≤ 15728640 }
-    ensures is { result ≡ zero_size globals.now }
-    ensures bound { result ≤ globals_size globals.now }
+    ensures { result ≡ zero_size globals.now }
 {
-    let mut size = 0;
-    for global in globals {
-        size += zero_part(global);
+    let own = initial_size(globals);
+    match end_within(true, own, globals) {
+        None => unreachable!(),
+        Some(size) => size - own,
     }
-    size
 }
 
-/// The address of each variable, if those that begin with bytes of their own stand from `own` on, and the others from `zeroed`
-/// on.
+/// The offset behind a variable in either stretch.
+#[tactic(auto, unfolding(crate::specs::Memory::if_small))]
+fn behind(as_zero: bool, from: u32, global: &GlobalVariable) -> u32
+    requires { behind_global as_zero from global.now ≤ 15728640 }
+    ensures { result ≡ behind_global as_zero from global.now }
+{
+    match behind_within(as_zero, from, global) {
+        None => unreachable!(),
+        Some(end) => end,
+    }
+}
+
+/// Where a variable begins that comes at an offset or behind it.
+fn begin_of(from: u32, global: &GlobalVariable) -> u32
+    requires { begin_of from global.now + variable_size global.now ≤ 15728640 }
+    ensures is { result ≡ begin_of from global.now }
+    ensures bound { result ≤ 15728640 }
+{
+    let size = global.initial.as_slice().len() as u32 + global.zeros;
+    begin_by(size, from)
+}
+
+/// Where a variable begins, by the next offsets in the two stretches.
+fn offset_of(own: u32, other: u32, global: &GlobalVariable) -> u32
+    requires own { behind_global false own global.now ≤ 15728640 }
+    requires other { behind_global true other global.now ≤ 15728640 }
+    ensures is { result ≡ begin_of (if begins_as_zero global.now then other else own) global.now }
+    ensures bound { result ≤ 15728640 }
+{
+    if begins_as_zero(global) {
+        return begin_of(other, global);
+    }
+    begin_of(own, global)
+}
+
+/// The address of each variable, if the first stretch begins at `start`.
 pub(crate) fn place_globals(
     alloc: Global,
-    own: u32,
-    zeroed: u32,
+    start: u32,
     globals: &[GlobalVariable],
 ) -> Result<Vec<u32>, AllocError>
     requires few { globals_size globals.now ≤ 15728640 }
-    requires room { (own + 15728640 < 2 ^ 32) × (zeroed + 15728640 < 2 ^ 32) }
-    ensures { IfOk result (λ addresses. addresses.items ≡ global_addresses own zeroed globals.now) }
+    requires room { start + 15728640 < 2 ^ 32 }
+    ensures { IfOk result (λ addresses. addresses.items ≡ global_addresses start globals.now) }
 {
-    let mut own = own;
-    let mut zeroed = zeroed;
+    let mut own = 0;
+    let mut other = initial_size(globals);
     let mut addresses = Vec::new(alloc);
     for global in globals {
-        addresses.push(address_of(own, zeroed, global))?;
-        own += initial_part(global);
-        zeroed += zero_part(global);
+        addresses.push(start + offset_of(own, other, global))?;
+        own = behind(false, own, global);
+        other = behind(true, other, global);
     }
     Ok(addresses)
-}
-
-/// The one of two addresses at which a variable stands.
-fn address_of(own: u32, zeroed: u32, global: &GlobalVariable) -> u32
-    ensures { result ≡ (if begins_as_zero global.now then zeroed else own) }
-{
-    if begins_as_zero(global) {
-        return zeroed;
-    }
-    own
 }
 
 /// Appends zeros.
@@ -118,26 +194,18 @@ pub(crate) fn push_zeros(image: &mut Vec<u8>, count: u32) -> Result<(), AllocErr
     Ok(())
 }
 
-/// How many bytes of the file stand behind a variable's own.
-#[tactic(auto, unfolding(crate::specs::Memory::global_size))]
-fn padding_of(global: &GlobalVariable) -> u32
-    requires { global_size global.now ≤ 15728640 }
-    ensures { result ≡ global_size global.now - length global.now.initial }
-{
-    global_size(global) - global.initial.as_slice().len() as u32
-}
-
-/// Appends what the file has of a variable.
+/// Appends what the file has of a variable that comes at an offset or behind it.
 #[tactic(auto, unfolding(crate::specs::Memory::global_bytes))]
-fn push_global(image: &mut Vec<u8>, global: &GlobalVariable) -> Result<(), AllocError>
-    requires { global_size global.now ≤ 15728640 }
-    ensures { OnOk result (image.new.items ≡ image.old.items ++ global_bytes global.now) }
+fn push_global(image: &mut Vec<u8>, from: u32, global: &GlobalVariable) -> Result<(), AllocError>
+    requires { behind_global false from global.now ≤ 15728640 }
+    ensures { OnOk result (image.new.items ≡ image.old.items ++ global_bytes from global.now) }
 {
     if begins_as_zero(global) {
         return Ok(());
     }
+    push_zeros(image, begin_of(from, global) - from)?;
     image.extend_from_slice(global.initial.as_slice())?;
-    push_zeros(image, padding_of(global))
+    push_zeros(image, global.zeros)
 }
 
 /// Appends what the file has of the variables.
@@ -148,8 +216,10 @@ pub(crate) fn push_globals(
     requires { globals_size globals.now ≤ 15728640 }
     ensures { OnOk result (image.new.items ≡ image.old.items ++ initial_bytes globals.now) }
 {
+    let mut from = 0;
     for global in globals {
-        push_global(image, global)?;
+        push_global(image, from, global)?;
+        from = behind(false, from, global);
     }
     Ok(())
 }

@@ -26,9 +26,10 @@ mod writer;
 
 pub use addresses::Addresses;
 pub use code::CodeError;
+pub use globals::are_small;
 pub use linker::{LinkError, link};
 pub use memory_map::{Settings, Sizes};
-pub use names::{are_small, linkable};
+pub use names::linkable;
 pub use place::{Placement, RoutinePlace, Spot};
 pub use reach::Reach;
 pub use reader::{Header, read_header, segment};

@@ -86,8 +86,7 @@ fn addresses(
     requires few { globals_size objects.now.globals ≤ 15728640 }
     ensures { IfOk result (λ addresses. addresses ≡ addresses_of known routines sizes.now objects.now) }
 {
-    let own = sizes.globals_address();
-    let globals = place_globals(alloc, own, own + sizes.initial, objects.globals.as_slice())?;
+    let globals = place_globals(alloc, sizes.globals_address(), objects.globals.as_slice())?;
     Ok(Addresses {
         known,
         routines,

@@ -2,19 +2,14 @@
 ghost use Rattle.std.specs.Prelude.{◌≡◌, ◌≤◌, ◌+◌, length, nat_le, nat_lt, slice_get};
 ghost use Rattle.std.specs.List.{list_all};
 ghost use Rattle.op_link.specs.Linking.{all_names_exist, has_symbol, is_linkable, lies_within, names_exist};
-ghost use Rattle.op_link.specs.Memory.{constants_size, global_size, globals_size};
-ghost use Rattle.op_link.specs.Placing.{left_of};
+ghost use Rattle.op_link.specs.Memory.{constants_size, globals_size};
 
 use crate::fields::routines_have_fields;
+use crate::globals::are_small;
 use op_layout::Layout;
-use op_rv::{
-    BlockId, GlobalVariable, Item, ObjectBlock, ObjectRoutine, Objects, RoutineId, Symbol,
-};
+use op_rv::{BlockId, Item, ObjectBlock, ObjectRoutine, Objects, RoutineId, Symbol};
 
-/// The most bytes that all global variables may take.
-const MOST_GLOBALS: u32 = 15_728_640;
-
-/// Whether `link` takes them: the entry is there, the globals take at most 15,728,640 bytes, the registers and immediates of
+/// Whether `link` takes them: the entry is there, the globals take at most 15,728,640 bytes, with those between them, the registers and immediates of
 /// all instructions fit, and what the items and the tables name is there.
 #[tactic(auto, unfolding(crate::specs::Linking::is_linkable))]
 pub fn linkable(objects: &Objects, layout: &Layout) -> bool
@@ -37,34 +32,6 @@ fn entries_exist(objects: &Objects, entries: &[RoutineId]) -> bool
     ensures { result ≡ list_all (λ routine. nat_lt routine.0 (length objects.now.routines)) entries.now }
 {
     entries.iter().all(|routine| has_routine(objects, *routine))
-}
-
-/// What a variable leaves of the room for globals, if it is enough.
-#[tactic(auto, unfolding(crate::specs::Memory::global_size, crate::specs::Placing::left_of))]
-fn left_by_global(room: u32, global: &GlobalVariable) -> Option<u32>
-    requires { room ≤ 15728640 }
-    ensures { result ≡ left_of room (global_size global.now) }
-{
-    let initial = global.initial.as_slice().len();
-    if initial > MOST_GLOBALS as usize || global.zeros > MOST_GLOBALS {
-        return None;
-    }
-    room.checked_sub((initial as u32 + global.zeros + 3) / 4 * 4)
-}
-
-/// Whether all global variables take no more than they may: 15,728,640 bytes.
-#[tactic(auto, unfolding(crate::specs::Placing::left_of))]
-pub fn are_small(globals: &[GlobalVariable]) -> bool
-    ensures { result ≡ nat_le (globals_size globals.now) 15728640 }
-{
-    let mut room = MOST_GLOBALS;
-    for global in globals {
-        match left_by_global(room, global) {
-            None => return false,
-            Some(left) => room = left,
-        }
-    }
-    true
 }
 
 /// Whether a place in the constants lies within them.

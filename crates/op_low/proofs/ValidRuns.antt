@@ -1,5 +1,6 @@
 -- Valid code comes to valid instructions alone.
-use Rattle.std.proofs.Common.{◌≡◌, ℕ, zero, suc, Bool, true, false, ◌&&◌, if◌then◌else◌, Option, Some, None, List, [], ◌∷◌, slice_get, length, refl}
+use Rattle.std.proofs.Common.{◌≡◌, ℕ, zero, suc, Bool, true, false, if◌then◌else◌, Option, Some, None, List, [], ◌∷◌, slice_get, length, refl}
+use Rattle.std.specs.Cmp.{first_so, second_so}
 use Rattle.std.specs.List.{list_all}
 use Rattle.op_simulation.specs.System.{run}
 use Rattle.op_low.specs.Machine.{low_machine, start, step, step_by_ending, done, act, load, store, call, call_found, return_to, raise_to, read, write, written, can_enter}
@@ -17,32 +18,24 @@ use Rattle.op_low.specs.declared.instruction.Instruction.TheVariants.{Const, Add
 use Rattle.op_low.specs.declared.instruction.Output.{Output}
 use Rattle.op_low.specs.declared.instruction.Output.TheVariants.{Console, Errors}
 
-and_left : (a b : Bool) → (a && b) ≡ true → a ≡ true
-and_left true b is = refl
-and_left false b is = absurd cc
-
-and_right : (a b : Bool) → (a && b) ≡ true → b ≡ true
-and_right true b is = is
-and_right false b is = absurd cc
-
 -- ---- the blocks
 
 code_of_block : (low : Low) (routine : Routine) (blocks : List Block) (b : ℕ) → list_all (is_valid_block low routine) blocks ≡ true → list_all (is_valid_instruction low routine) (code_or (slice_get blocks b)) ≡ true
 unfolding is_valid_block
 code_of_block low routine [] b all = refl
-code_of_block low routine (x ∷ xs) zero all = and_right _ _ (and_left _ _ all)
-code_of_block low routine (x ∷ xs) (suc b) all = code_of_block low routine xs b (and_right _ _ all)
+code_of_block low routine (x ∷ xs) zero all = second_so _ _ (first_so _ _ all)
+code_of_block low routine (x ∷ xs) (suc b) all = code_of_block low routine xs b (second_so _ _ all)
 
 code_of_routine : (low : Low) (routines : List Routine) (r b : ℕ) → list_all (is_valid_routine low) routines ≡ true → list_all (is_valid_instruction low (routine_or (slice_get routines r))) (code_or (slice_get ((routine_or (slice_get routines r)).blocks) b)) ≡ true
 unfolding is_valid_routine
 code_of_routine low [] r b all = refl
-code_of_routine low (x ∷ xs) zero b all = code_of_block low x x.blocks b (and_right _ _ (and_left _ _ all))
-code_of_routine low (x ∷ xs) (suc r) b all = code_of_routine low xs r b (and_right _ _ all)
+code_of_routine low (x ∷ xs) zero b all = code_of_block low x x.blocks b (second_so _ _ (first_so _ _ all))
+code_of_routine low (x ∷ xs) (suc r) b all = code_of_routine low xs r b (second_so _ _ all)
 
 -- each block of valid code, of any numbers
 pub block_of-valid : (low : Low) → is_valid low ≡ true → (r b : ℕ) → list_all (is_valid_instruction low (routine_of low r)) (block_of low r b) ≡ true
 unfolding is_valid
-block_of-valid low valid r b = code_of_routine low low.routines r b (and_right _ _ valid)
+block_of-valid low valid r b = code_of_routine low low.routines r b (second_so _ _ valid)
 
 -- ---- a step
 
@@ -112,7 +105,7 @@ module _ (low : Low) (p : Placement) (valid : is_valid low ≡ true) where
   done_runs : (now : List Instruction) (m : State) → list_all (is_valid_instruction low (routine_of low m.top.routine)) now ≡ true → RunsValid low m → RunsValid low (done low p now m)
   unfolding done
   done_runs [] m all h = bad_runs m h
-  done_runs (i ∷ is) m all h = act_runs i (record m { top = record m.top { now = is } }) (record { top = and_right _ _ all; callers = h.callers })
+  done_runs (i ∷ is) m all h = act_runs i (record m { top = record m.top { now = is } }) (record { top = second_so _ _ all; callers = h.callers })
 
   step_by_ending_runs : (e : Ending) (m : State) → RunsValid low m → RunsValid low (step_by_ending low p e m)
   unfolding step_by_ending

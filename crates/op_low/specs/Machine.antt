@@ -154,23 +154,53 @@ abbrev pub shown_if : Bool → Event → List Event
 shown_if happens event = if happens then event ∷ [] else []
 
 unfoldable pub shown_by : Placement → Instruction → State → List Event
+shown_by p (Const to n) m = []
+shown_by p (Address to symbol) m = []
+shown_by p (Local to offset) m = []
+shown_by p (Move to from) m = []
+shown_by p (Alu op to left right) m = []
+shown_by p (AluImm op to left imm) m = []
+shown_by p (Shift op to left amount) m = []
+shown_by p (Load op to base offset) m = []
+shown_by p (Store op v base offset) m = []
+shown_by p (Call id call) m = []
+shown_by p (CallAt address call) m = []
+shown_by p (Branch op left right block) m = []
+shown_by p (Jump block) m = []
+shown_by p (Return v) m = []
+shown_by p Raise m = []
 shown_by p (Read to buffer size) m =
     shown_if (all_from (usable p.rights.writable m) (value m buffer) (value m size)) (Taken (taken (value m size) m))
 shown_by p (Write output buffer size) m =
     shown_if
     (all_from (usable p.rights.readable m) (value m buffer) (value m size))
     (Written output (bytes_from m.memory (value m buffer) (value m size)))
-shown_by p _ m = []
+shown_by p (Exit status) m = []
 
 -- a call is charged for the bytes that it sets to zero
 unfoldable pub cost_by : Low → Placement → Instruction → State → ℕ
+cost_by low p (Const to n) m = 1
+cost_by low p (Address to symbol) m = 1
+cost_by low p (Local to offset) m = 1
+cost_by low p (Move to from) m = 1
+cost_by low p (Alu op to left right) m = 1
+cost_by low p (AluImm op to left imm) m = 1
+cost_by low p (Shift op to left amount) m = 1
+cost_by low p (Load op to base offset) m = 1
+cost_by low p (Store op v base offset) m = 1
 cost_by low p (Call r operands) m = 1 + space low p r.0 + length operands.arguments
 cost_by low p (CallAt address operands) m = cost_at (p.routine_at (value m address))
   where
     cost_at : Option ℕ → ℕ
     cost_at None = 1
     cost_at (Some r) = 1 + space low p r + length operands.arguments
-cost_by low p _ m = 1
+cost_by low p (Branch op left right block) m = 1
+cost_by low p (Jump block) m = 1
+cost_by low p (Return v) m = 1
+cost_by low p Raise m = 1
+cost_by low p (Read to buffer size) m = 1
+cost_by low p (Write output buffer size) m = 1
+cost_by low p (Exit status) m = 1
 
 abbrev pub shown_next : Placement → List Instruction → State → List Event
 shown_next p [] m = []

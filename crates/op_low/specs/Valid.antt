@@ -105,11 +105,24 @@ is_valid_instruction low routine (Exit status) = has routine status
 
 -- the code never goes on behind it
 unfoldable pub leaves : Instruction → Bool
+leaves (Const to n) = false
+leaves (Address to symbol) = false
+leaves (Local to offset) = false
+leaves (Move to from) = false
+leaves (Alu op to left right) = false
+leaves (AluImm op to left imm) = false
+leaves (Shift op to left amount) = false
+leaves (Load op to base offset) = false
+leaves (Store op v base offset) = false
+leaves (Call id call) = false
+leaves (CallAt address call) = false
+leaves (Branch op left right block) = false
 leaves (Jump block) = true
 leaves (Return v) = true
 leaves Raise = true
+leaves (Read to buffer size) = false
+leaves (Write output buffer size) = false
 leaves (Exit status) = true
-leaves _ = false
 
 abbrev pub leaves_if : Option Instruction → Bool
 leaves_if None = false

@@ -1,10 +1,11 @@
 -- What is made of the parts of an item is what the definition of code says of the item.
-use Rattle.std.proofs.Common.{◌≡◌, ℕ, suc, ◌+◌, ◌<◌, Bool, List, [], ◌∷◌, ◌++◌, length, map, sym, ap, ◌∙◌, arith, append_assoc, None, ◌≤◌, Result, Ok, Err, IfOk, reverse}
+use Rattle.std.proofs.Common.{◌≡◌, ℕ, suc, ◌+◌, ◌<◌, Bool, List, [], ◌∷◌, ◌++◌, length, map, sym, ap, ◌∙◌, arith, append_assoc, None, ◌≤◌, Result, Ok, Err, IfOk, reverse, ap₂}
 use Rattle.std.proofs.lemmas.List.{append-nil, map-append, map-set, length-map, length-append, length-set, length_push, reverse-append, take-set, take_all, take_more}
 use Rattle.std.proofs.Math.Nat.{add-zero}
 use Rattle.std.proofs.Math.Seq.{set-append_seam}
 use Rattle.std.specs.Prelude.{◌-◌, Vec, slice_set, slice_index_or, take}
 use Rattle.std.specs.declared.alloc.Global.{Global}
+use Rattle.op_base.proofs.Tests.{ap₃}
 use Rattle.op_core.specs.declared.program.Core.{Core}
 use Rattle.op_core.specs.declared.statement.Label.{Label}
 use Rattle.op_items.proofs.Nodes.{item_nodes, items_behind}
@@ -31,9 +32,6 @@ use Rattle.op_mir.specs.declared.instruction.Instruction.TheVariants.{Jump, Swit
 abbrev pub Blocks : Type 0
 Blocks = List (List Instr)
 
-pub both : {A B C : Type 0} (f : A → B → C) {a a' : A} {b b' : B} → a ≡ a' → b ≡ b' → f a b ≡ f a' b'
-both f {a} {a'} {b} {b'} p q = ap (λ x. f x b) p ∙ ap (f a') q
-
 -- tables of no program, for what is the same in all
 pub no_tables : Core
 no_tables = record { types = []; extents = []; fields = []; classes = []; interfaces = []; listed = []; methods = []; properties = []; routines = []; parameters = []; variables = []; globals = []; units = []; exceptions = None }
@@ -55,12 +53,12 @@ count_seen core r old new more e = sym (length-map new (view_block core r)) ∙ 
 pub seen_filled : (core : Core) (r : ℕ) (old new : List Block) (k : ℕ) (code : List Instruction) (front : Blocks) (x : List Instr) (rest : Blocks) → seen_blocks core r old ≡ front ++ x ∷ rest → k ≡ length front → new ≡ slice_set old k (block_of code) → seen_blocks core r new ≡ front ++ seen core r code ∷ rest
 seen_filled core r old new k code front x rest e h f =
     ap (seen_blocks core r) f ∙ map-set (view_block core r) old k (block_of code)
-    ∙ both (λ v j. slice_set v j (seen core r code)) e h ∙ set-append_seam front x rest (seen core r code)
+    ∙ ap₂ (λ v j. slice_set v j (seen core r code)) e h ∙ set-append_seam front x rest (seen core r code)
 
 -- ---- what is made, at equal places
 
 pub as_made : (m m' : Made) (now : List Instr) (new old front : Blocks) → m ≡ m' → old ≡ front → (now ≡ m.now) × (new ≡ old ++ m.blocks) → (now ≡ m'.now) × (new ≡ front ++ m'.blocks)
-as_made m m' now new old front e f h = (h.0 ∙ ap (λ x. x.now) e, h.1 ∙ both (λ v x. v ++ x.blocks) f e)
+as_made m m' now new old front e f h = (h.0 ∙ ap (λ x. x.now) e, h.1 ∙ ap₂ (λ v x. v ++ x.blocks) f e)
 
 -- ---- branches
 
@@ -81,8 +79,8 @@ also_makes exits truth t items behind on old b1 b2 now front k put h joined e ma
     let made : ℕ → List Instr → Made = code (exits_of exits) (items_view core r items) in
     let n : length b1 ≡ length old + 1 = ap length e ∙ length_push old (block_of behind) in
     let a = made (length old + 1) (continued (length old) B) in
-    let m = as_made (made (length b1) (jump on.0 ∷ [])) a (seen core r now) (seen_blocks core r b2) (seen_blocks core r b1) (V ++ B ∷ []) (both made n (joined core r)) (seen_put core r old b1 behind e) (makes core r) in
-    (put core r ∙ both ◌∷◌ (ap (branch_unless truth t.0) h) m.0, m.1 ∙ append_assoc V (B ∷ []) a.blocks)
+    let m = as_made (made (length b1) (jump on.0 ∷ [])) a (seen core r now) (seen_blocks core r b2) (seen_blocks core r b1) (V ++ B ∷ []) (ap₂ made n (joined core r)) (seen_put core r old b1 behind e) (makes core r) in
+    (put core r ∙ ap₂ ◌∷◌ (ap (branch_unless truth t.0) h) m.0, m.1 ∙ append_assoc V (B ∷ []) a.blocks)
 
 pub choose_makes : (exits : Exits) (t : TemporaryId) (first otherwise : List Item) (behind : List Instruction) (on other : BlockId) (old b1 b2 b3 : List Block) (now front : List Instruction) → ((core : Core) (r : ℕ) → seen core r front ≡ unless t.0 other.0 ∷ seen core r now) → ((core : Core) (r : ℕ) → jump on.0 ∷ [] ≡ continued (length old) (seen core r behind)) → b1 ≡ old ++ block_of behind ∷ [] → other.0 ≡ length b1 → Adds (branch_made exits otherwise b1 on) b1 b2 → Makes (items_made exits first b2 (Jump on ∷ [])) b2 b3 now → Makes (item_made exits (λ core r. choose t.0 (items_view core r first) (items_view core r otherwise)) old behind) old b3 front
 choose_makes exits t first otherwise behind on other old b1 b2 b3 now front put joined e h adds makes = λ core r.
@@ -95,14 +93,14 @@ choose_makes exits t first otherwise behind on other old b1 b2 b3 now front put 
     let n1 : length b1 ≡ k + 1 = ap length e ∙ length_push old (block_of behind) in
     let n : length b1 + 1 ≡ k + 2 = omega (arith, n1) in
     let b = other_code (k + 2) C in
-    let same : other_code (length b1 + 1) (jump on.0 ∷ []) ≡ b = both other_code n (joined core r) in
+    let same : other_code (length b1 + 1) (jump on.0 ∷ []) ≡ b = ap₂ other_code n (joined core r) in
     let v2 : seen_blocks core r b2 ≡ V ++ B ∷ b.now ∷ b.blocks =
-    adds core r ∙ both (λ v x. v ++ x.now ∷ x.blocks) (seen_put core r old b1 behind e) same ∙ append_assoc V (B ∷ []) (b.now ∷ b.blocks) in
+    adds core r ∙ ap₂ (λ v x. v ++ x.now ∷ x.blocks) (seen_put core r old b1 behind e) same ∙ append_assoc V (B ∷ []) (b.now ∷ b.blocks) in
     let counted : length b2 ≡ k + suc (suc (length b.blocks)) = count_seen core r old b2 (B ∷ b.now ∷ b.blocks) v2 in
     let n2 : length b2 ≡ k + 2 + length b.blocks = omega (arith, counted) in
     let a = first_code (k + 2 + length b.blocks) C in
-    let m = as_made (first_code (length b2) (jump on.0 ∷ [])) a (seen core r now) (seen_blocks core r b3) (seen_blocks core r b2) (V ++ B ∷ b.now ∷ b.blocks) (both first_code n2 (joined core r)) v2 (makes core r) in
-    (put core r ∙ both ◌∷◌ (ap (unless t.0) (h ∙ n1)) m.0, m.1 ∙ append_assoc V (B ∷ b.now ∷ b.blocks) a.blocks)
+    let m = as_made (first_code (length b2) (jump on.0 ∷ [])) a (seen core r now) (seen_blocks core r b3) (seen_blocks core r b2) (V ++ B ∷ b.now ∷ b.blocks) (ap₂ first_code n2 (joined core r)) v2 (makes core r) in
+    (put core r ∙ ap₂ ◌∷◌ (ap (unless t.0) (h ∙ n1)) m.0, m.1 ∙ append_assoc V (B ∷ b.now ∷ b.blocks) a.blocks)
 
 pub select_makes : (exits : Exits) (t : TemporaryId) (cs : List Case) (otherwise : List Item) (behind : List Instruction) (on : BlockId) (old b1 b2 b3 : List Block) (now front : List Instruction) (arms : List Arm) → front ≡ Switch t arms ∷ now → ((core : Core) (r : ℕ) → jump on.0 ∷ [] ≡ continued (length old) (seen core r behind)) → b1 ≡ old ++ block_of behind ∷ [] → Makes (items_made exits otherwise b1 (Jump on ∷ [])) b1 b2 now → MakesArms (arms_made exits cs b2 on) b2 b3 arms → Makes (item_made exits (λ core r. select t.0 (cases_view core r cs) (items_view core r otherwise)) old behind) old b3 front
 select_makes exits t cs otherwise behind on old b1 b2 b3 now front arms put joined e makes made_arms = λ core r.
@@ -114,14 +112,14 @@ select_makes exits t cs otherwise behind on old b1 b2 b3 now front arms put join
     let arms_code : ℕ → List Instr → List MeantArm × Blocks = code_cases (exits_of exits) (cases_view core r cs) in
     let n1 : length b1 ≡ k + 1 = ap length e ∙ length_push old (block_of behind) in
     let b = other_code (k + 1) C in
-    let m = as_made (other_code (length b1) (jump on.0 ∷ [])) b (seen core r now) (seen_blocks core r b2) (seen_blocks core r b1) (V ++ B ∷ []) (both other_code n1 (joined core r)) (seen_put core r old b1 behind e) (makes core r) in
+    let m = as_made (other_code (length b1) (jump on.0 ∷ [])) b (seen core r now) (seen_blocks core r b2) (seen_blocks core r b1) (V ++ B ∷ []) (ap₂ other_code n1 (joined core r)) (seen_put core r old b1 behind e) (makes core r) in
     let v2 : seen_blocks core r b2 ≡ V ++ B ∷ b.blocks = m.1 ∙ append_assoc V (B ∷ []) b.blocks in
     let counted : length b2 ≡ k + suc (length b.blocks) = count_seen core r old b2 (B ∷ b.blocks) v2 in
     let n2 : length b2 ≡ k + 1 + length b.blocks = omega (arith, counted) in
     let a = arms_code (k + 1 + length b.blocks) C in
-    let same : arms_code (length b2) (jump on.0 ∷ []) ≡ a = both arms_code n2 (joined core r) in
+    let same : arms_code (length b2) (jump on.0 ∷ []) ≡ a = ap₂ arms_code n2 (joined core r) in
     let h = made_arms core r in
-    (ap (seen core r) put ∙ both (λ x xs. switch t.0 x ∷ xs) (h.0 ∙ ap (λ x. x.0) same) m.0, h.1 ∙ both (λ v x. v ++ x.1) v2 same ∙ append_assoc V (B ∷ b.blocks) a.1)
+    (ap (seen core r) put ∙ ap₂ (λ x xs. switch t.0 x ∷ xs) (h.0 ∙ ap (λ x. x.0) same) m.0, h.1 ∙ ap₂ (λ v x. v ++ x.1) v2 same ∙ append_assoc V (B ∷ b.blocks) a.1)
 
 -- ---- loops
 
@@ -130,11 +128,8 @@ record BodyStands (V : Blocks) (B : List Instr) (out : MeantExits) (k : ℕ) (bo
   blocks : let c = code (loop_exits out k) body (k + 3) (jump (suc k) ∷ []) in new ≡ V ++ B ∷ [] ∷ c.now ∷ c.blocks
   comes : to_body ≡ continued (suc (suc k)) (code (loop_exits out k) body (k + 3) (jump (suc k) ∷ [])).now
 
-three : {A B C D : Type 0} (f : A → B → C → D) {a a' : A} {b b' : B} {c c' : C} → a ≡ a' → b ≡ b' → c ≡ c' → f a b c ≡ f a' b' c'
-three f {a} {a'} {b} {b'} {c} {c'} p q s = ap (λ x. f x b c) p ∙ both (f a') q s
-
 set_at : (v front : Blocks) (x y : List Instr) (rest : Blocks) (k : ℕ) → v ≡ front ++ x ∷ rest → k ≡ length front → slice_set v k y ≡ front ++ y ∷ rest
-set_at v front x y rest k e h = both (λ w j. slice_set w j y) e h ∙ set-append_seam front x rest y
+set_at v front x y rest k e h = ap₂ (λ w j. slice_set w j y) e h ∙ set-append_seam front x rest y
 
 -- the body stands in its block, and the code between turns comes to it
 body_stands : (core : Core) (r : ℕ) (exits within : Exits) (body : List Item) (behind : List Instruction) (made_behind head at_body on : BlockId) (old b1 b2 : List Block) → exits_of within ≡ loop_exits (exits_of exits) made_behind.0 → made_behind.0 ≡ length old → head.0 ≡ length old + 1 → at_body.0 ≡ length old + 2 → b1 ≡ old ++ block_of behind ∷ block_of [] ∷ block_of [] ∷ [] → IsBody (items_made within body b1 (Jump head ∷ [])) at_body b1 b2 on → BodyStands (seen_blocks core r old) (seen core r behind) (exits_of exits) (length old) (items_view core r body) (seen_blocks core r b2) (jump on.0 ∷ [])
@@ -147,7 +142,7 @@ body_stands core r exits within body behind made_behind head at_body on old b1 b
     let s : head.0 ≡ suc k = omega (arith, hh) in
     let z : at_body.0 ≡ suc (suc k) = omega (arith, hb) in
     let c = body_code (loop_exits (exits_of exits) k) (k + 3) (jump (suc k) ∷ []) in
-    let same : body_code (exits_of within) (length b1) (jump head.0 ∷ []) ≡ c = three body_code (w ∙ ap (loop_exits (exits_of exits)) hk) n (ap (λ i. jump i ∷ []) s) in
+    let same : body_code (exits_of within) (length b1) (jump head.0 ∷ []) ≡ c = ap₃ body_code (w ∙ ap (loop_exits (exits_of exits)) hk) n (ap (λ i. jump i ∷ []) s) in
     let v1 : seen_blocks core r b1 ≡ V ++ B ∷ [] ∷ [] ∷ [] = ap (seen_blocks core r) e ∙ map-append (view_block core r) old (block_of behind ∷ block_of [] ∷ block_of [] ∷ []) in
     let parts : seen_blocks core r b1 ++ c.blocks ≡ (V ++ B ∷ [] ∷ []) ++ [] ∷ c.blocks =
     ap (λ v. v ++ c.blocks) v1 ∙ append_assoc V (B ∷ [] ∷ [] ∷ []) c.blocks ∙ sym (append_assoc V (B ∷ [] ∷ []) ([] ∷ c.blocks)) in
@@ -156,7 +151,7 @@ body_stands core r exits within body behind made_behind head at_body on old b1 b
     let h = is_body core r in
     record {
       blocks = h.0 ∙ ap (λ x. slice_set (seen_blocks core r b1 ++ x.blocks) at_body.0 x.now) same ∙ set_at (seen_blocks core r b1 ++ c.blocks) (V ++ B ∷ [] ∷ []) [] c.now c.blocks at_body.0 parts place ∙ append_assoc V (B ∷ [] ∷ []) (c.now ∷ c.blocks);
-      comes = h.1 ∙ both continued z (ap (λ x. x.now) same);
+      comes = h.1 ∙ ap₂ continued z (ap (λ x. x.now) same);
     }
 
 pub loop_adds : (exits within : Exits) (l : Turns) (behind : List Instruction) (made_behind head at_body on : BlockId) (old b1 b2 b3 b4 b5 : List Block) (test front now : List Instruction) → ((core : Core) (r : ℕ) → seen core r front ≡ branch_if l.ends l.temporary.0 made_behind.0 ∷ seen core r test) → exits_of within ≡ loop_exits (exits_of exits) made_behind.0 → made_behind.0 ≡ length old → head.0 ≡ length old + 1 → at_body.0 ≡ length old + 2 → b1 ≡ old ++ block_of behind ∷ block_of [] ∷ block_of [] ∷ [] → IsBody (items_made within l.body.items b1 (Jump head ∷ [])) at_body b1 b2 on → Makes (items_made within l.between.items b2 (Jump on ∷ [])) b2 b3 test → Makes (items_made exits l.head.items b3 front) b3 b4 now → b5 ≡ slice_set b4 head.0 (block_of now) → Adds (loop_made exits l old behind) old b5
@@ -171,22 +166,22 @@ loop_adds exits within l behind made_behind head at_body on old b1 b2 b3 b4 b5 t
     let n2 : length b2 ≡ k + 3 + length c.blocks = omega (arith, counted) in
     let between : MeantExits → ℕ → List Instr → Made = λ out. code out (items_view core r l.between.items) in
     let b = between lo (k + 3 + length c.blocks) (continued (suc (suc k)) c.now) in
-    let m2 = as_made (between (exits_of within) (length b2) (jump on.0 ∷ [])) b (seen core r test) (seen_blocks core r b3) (seen_blocks core r b2) (V ++ B ∷ [] ∷ c.now ∷ c.blocks) (three between (w ∙ ap (loop_exits (exits_of exits)) hk) n2 body.comes) body.blocks (makes_between core r) in
+    let m2 = as_made (between (exits_of within) (length b2) (jump on.0 ∷ [])) b (seen core r test) (seen_blocks core r b3) (seen_blocks core r b2) (V ++ B ∷ [] ∷ c.now ∷ c.blocks) (ap₃ between (w ∙ ap (loop_exits (exits_of exits)) hk) n2 body.comes) body.blocks (makes_between core r) in
     let v3 : seen_blocks core r b3 ≡ V ++ B ∷ [] ∷ c.now ∷ (c.blocks ++ b.blocks) = m2.1 ∙ append_assoc V (B ∷ [] ∷ c.now ∷ c.blocks) b.blocks in
     let counted3 : length b3 ≡ k + suc (suc (suc (length (c.blocks ++ b.blocks)))) = count_seen core r old b3 (B ∷ [] ∷ c.now ∷ (c.blocks ++ b.blocks)) v3 in
     let n3 : length b3 ≡ k + 3 + length c.blocks + length b.blocks = omega (arith, counted3, length-append c.blocks b.blocks) in
     let head_code : ℕ → List Instr → Made = code (exits_of exits) (items_view core r l.head.items) in
     let T : Instr = branch_if l.ends l.temporary.0 k in
     let a = head_code (k + 3 + length c.blocks + length b.blocks) (T ∷ b.now) in
-    let tested : seen core r front ≡ T ∷ b.now = put core r ∙ both ◌∷◌ (ap (branch_if l.ends l.temporary.0) hk) m2.0 in
-    let m3 = as_made (head_code (length b3) (seen core r front)) a (seen core r now) (seen_blocks core r b4) (seen_blocks core r b3) (V ++ B ∷ [] ∷ c.now ∷ (c.blocks ++ b.blocks)) (both head_code n3 tested) v3 (makes_head core r) in
+    let tested : seen core r front ≡ T ∷ b.now = put core r ∙ ap₂ ◌∷◌ (ap (branch_if l.ends l.temporary.0) hk) m2.0 in
+    let m3 = as_made (head_code (length b3) (seen core r front)) a (seen core r now) (seen_blocks core r b4) (seen_blocks core r b3) (V ++ B ∷ [] ∷ c.now ∷ (c.blocks ++ b.blocks)) (ap₂ head_code n3 tested) v3 (makes_head core r) in
     let rest : Blocks = c.now ∷ (c.blocks ++ b.blocks) ++ a.blocks in
     let v4 : seen_blocks core r b4 ≡ (V ++ B ∷ []) ++ [] ∷ rest = m3.1 ∙ append_assoc V (B ∷ [] ∷ c.now ∷ (c.blocks ++ b.blocks)) a.blocks ∙ sym (append_assoc V (B ∷ []) ([] ∷ rest)) in
     let count : length (V ++ B ∷ []) ≡ length V + 1 = length-append V (B ∷ []) in
     let place : head.0 ≡ length (V ++ B ∷ []) = omega (arith, hh, count, length-map old (view_block core r)) in
     seen_filled core r b4 b5 head.0 now (V ++ B ∷ []) [] rest v4 place f
     ∙ append_assoc V (B ∷ []) (seen core r now ∷ rest)
-    ∙ both (λ x xs. V ++ B ∷ x ∷ c.now ∷ xs) m3.0 (append_assoc c.blocks b.blocks a.blocks)
+    ∙ ap₂ (λ x xs. V ++ B ∷ x ∷ c.now ∷ xs) m3.0 (append_assoc c.blocks b.blocks a.blocks)
 
 -- ---- finally parts
 
@@ -200,7 +195,7 @@ finally_adds exits t items behind block old b1 b2 b3 on now put h adds makes f =
     let ways : Blocks = out 1 ∷ out 2 ∷ out 3 ∷ [] in
     let counted : length b1 ≡ k + 4 = count_seen core r old b1 ([] ∷ ways) (adds core r) in
     let b = made (k + 4) (dispatch t.0 k ∷ B) in
-    let m = as_made (made (length b1) (seen core r on)) b (seen core r now) (seen_blocks core r b2) (seen_blocks core r b1) (V ++ [] ∷ ways) (both made counted (ap (seen core r) put ∙ ap (λ j. dispatch t.0 j ∷ B) h)) (adds core r) (makes core r) in
+    let m = as_made (made (length b1) (seen core r on)) b (seen core r now) (seen_blocks core r b2) (seen_blocks core r b1) (V ++ [] ∷ ways) (ap₂ made counted (ap (seen core r) put ∙ ap (λ j. dispatch t.0 j ∷ B) h)) (adds core r) (makes core r) in
     seen_filled core r b2 b3 block.0 now V [] (ways ++ b.blocks) (m.1 ∙ append_assoc V ([] ∷ ways) b.blocks) (h ∙ sym (length-map old (view_block core r))) f
     ∙ ap (λ x. V ++ (x ∷ ways ++ b.blocks)) m.0
 
@@ -243,18 +238,18 @@ item_done exits whole items rest i old b1 b2 behind now e completes makes = λ c
     let m = makes core r in
     let n : length b2 ≡ k + length b.blocks = count_seen core r b1 b2 b.blocks m.1 in
     let a = code out R (k + length b.blocks) b.now in
-    let same : code out R (length b2) (seen core r now) ≡ a = both (code out R) n m.0 in
+    let same : code out R (length b2) (seen core r now) ≡ a = ap₂ (code out R) n m.0 in
     let h = completes core r in
-    (ap (λ x. x.now) same ∙ sym (ap (λ x. x.now) split) ∙ h.0, both (λ v x. v ++ x.blocks) m.1 same ∙ append_assoc V b.blocks a.blocks ∙ sym (ap (λ x. V ++ x.blocks) split) ∙ h.1)
+    (ap (λ x. x.now) same ∙ sym (ap (λ x. x.now) split) ∙ h.0, ap₂ (λ v x. v ++ x.blocks) m.1 same ∙ append_assoc V b.blocks a.blocks ∙ sym (ap (λ x. V ++ x.blocks) split) ∙ h.1)
 
 -- three blocks of code, put in turn behind one that is reserved
 pub three_put : (core : Core) (r : ℕ) (old b1 b2 b3 b4 : List Block) (x y z : List Instruction) (o1 o2 o3 : List Instr) → b1 ≡ old ++ block_of [] ∷ [] → b2 ≡ b1 ++ block_of x ∷ [] → b3 ≡ b2 ++ block_of y ∷ [] → b4 ≡ b3 ++ block_of z ∷ [] → seen core r x ≡ o1 → seen core r y ≡ o2 → seen core r z ≡ o3 → seen_blocks core r b4 ≡ seen_blocks core r old ++ [] ∷ o1 ∷ o2 ∷ o3 ∷ []
 three_put core r old b1 b2 b3 b4 x y z o1 o2 o3 e1 e2 e3 e4 h1 h2 h3 =
     let V = seen_blocks core r old in
     let v1 : seen_blocks core r b1 ≡ V ++ [] ∷ [] = seen_put core r old b1 [] e1 in
-    let v2 : seen_blocks core r b2 ≡ V ++ [] ∷ o1 ∷ [] = seen_put core r b1 b2 x e2 ∙ both (λ v i. v ++ i ∷ []) v1 h1 ∙ append_assoc V ([] ∷ []) (o1 ∷ []) in
-    let v3 : seen_blocks core r b3 ≡ V ++ [] ∷ o1 ∷ o2 ∷ [] = seen_put core r b2 b3 y e3 ∙ both (λ v i. v ++ i ∷ []) v2 h2 ∙ append_assoc V ([] ∷ o1 ∷ []) (o2 ∷ []) in
-    seen_put core r b3 b4 z e4 ∙ both (λ v i. v ++ i ∷ []) v3 h3 ∙ append_assoc V ([] ∷ o1 ∷ o2 ∷ []) (o3 ∷ [])
+    let v2 : seen_blocks core r b2 ≡ V ++ [] ∷ o1 ∷ [] = seen_put core r b1 b2 x e2 ∙ ap₂ (λ v i. v ++ i ∷ []) v1 h1 ∙ append_assoc V ([] ∷ []) (o1 ∷ []) in
+    let v3 : seen_blocks core r b3 ≡ V ++ [] ∷ o1 ∷ o2 ∷ [] = seen_put core r b2 b3 y e3 ∙ ap₂ (λ v i. v ++ i ∷ []) v2 h2 ∙ append_assoc V ([] ∷ o1 ∷ []) (o2 ∷ []) in
+    seen_put core r b3 b4 z e4 ∙ ap₂ (λ v i. v ++ i ∷ []) v3 h3 ∙ append_assoc V ([] ∷ o1 ∷ o2 ∷ []) (o3 ∷ [])
 
 -- ---- arms from the last one on
 
@@ -301,8 +296,8 @@ arm_done exits whole cs rest c on block old b1 b2 arms more e completes at adds 
     let arm : MeantArm = record { labels = c.labels; block = k } in
     let first : map view_arm more ≡ arm ∷ map view_arm arms = ap (map view_arm) put ∙ ap (λ j. record { labels = c.labels; block = j } ∷ map view_arm arms) at in
     let h = completes core r in (
-      both (λ x xs. x.0 ++ xs) same first ∙ sym (append_assoc b.0 (arm ∷ []) (map view_arm arms)) ∙ sym (ap (λ x. x.0 ++ map view_arm arms) split) ∙ h.0,
-      both (λ v x. v ++ x.1) (adds core r) same ∙ append_assoc V front b.1 ∙ sym (ap (λ x. V ++ x.1) split) ∙ h.1,
+      ap₂ (λ x xs. x.0 ++ xs) same first ∙ sym (append_assoc b.0 (arm ∷ []) (map view_arm arms)) ∙ sym (ap (λ x. x.0 ++ map view_arm arms) split) ∙ h.0,
+      ap₂ (λ v x. v ++ x.1) (adds core r) same ∙ append_assoc V front b.1 ∙ sym (ap (λ x. V ++ x.1) split) ∙ h.1,
     )
 
 -- ---- numbers
@@ -318,7 +313,7 @@ grows made old new now makes =
 pub body_is : (made : Core → ℕ → Made) (block on : BlockId) (old b1 b2 : List Block) (now : List Instruction) → Makes made old b1 now → ((core : Core) (r : ℕ) → jump on.0 ∷ [] ≡ continued block.0 (seen core r now)) → b2 ≡ slice_set b1 block.0 (block_of now) → IsBody made block old b2 on
 body_is made block on old b1 b2 now makes comes f = λ core r.
     let m = makes core r in
-    (ap (seen_blocks core r) f ∙ map-set (view_block core r) b1 block.0 (block_of now) ∙ both (λ v x. slice_set v block.0 x) m.1 m.0, comes core r ∙ ap (continued block.0) m.0)
+    (ap (seen_blocks core r) f ∙ map-set (view_block core r) b1 block.0 (block_of now) ∙ ap₂ (λ v x. slice_set v block.0 x) m.1 m.0, comes core r ∙ ap (continued block.0) m.0)
 
 -- ---- which item it is
 
@@ -336,17 +331,17 @@ MadeFor exits item old new behind now result = IfOk result (λ _. Makes (item_ma
 pub also_is : {R E : Type 0} (exits : Exits) (item : Item) (truth found_truth : Bool) (t found_t : TemporaryId) (items found : Vec Item Global) (old new : List Block) (behind now : List Instruction) (result : Result R E) → item ≡ Also truth t items → found_truth ≡ truth → found_t ≡ t → found ≡ items → MadeFor exits (λ core r. also found_truth found_t.0 (items_view core r found.items)) old new behind now result → MadeFor exits (λ core r. item_view core r item) old new behind now result
 also_is exits item truth found_truth t found_t items found old new behind now result e p q s h =
     item_is exits (λ core r. item_view core r item) (λ core r. also found_truth found_t.0 (items_view core r found.items)) old new behind now result
-    (λ core r. ap (item_view core r) e ∙ (item_nodes core r).also_says truth t items ∙ three (λ x y z. also x y.0 (items_view core r z.items)) (sym p) (sym q) (sym s)) h
+    (λ core r. ap (item_view core r) e ∙ (item_nodes core r).also_says truth t items ∙ ap₃ (λ x y z. also x y.0 (items_view core r z.items)) (sym p) (sym q) (sym s)) h
 
 pub choose_is : {R E : Type 0} (exits : Exits) (item : Item) (t found_t : TemporaryId) (first found otherwise found_otherwise : Vec Item Global) (old new : List Block) (behind now : List Instruction) (result : Result R E) → item ≡ Choose t first otherwise → found_t ≡ t → found ≡ first → found_otherwise ≡ otherwise → MadeFor exits (λ core r. choose found_t.0 (items_view core r found.items) (items_view core r found_otherwise.items)) old new behind now result → MadeFor exits (λ core r. item_view core r item) old new behind now result
 choose_is exits item t found_t first found otherwise found_otherwise old new behind now result e p q s h =
     item_is exits (λ core r. item_view core r item) (λ core r. choose found_t.0 (items_view core r found.items) (items_view core r found_otherwise.items)) old new behind now result
-    (λ core r. ap (item_view core r) e ∙ (item_nodes core r).choose_says t first otherwise ∙ three (λ x y z. choose x.0 (items_view core r y.items) (items_view core r z.items)) (sym p) (sym q) (sym s)) h
+    (λ core r. ap (item_view core r) e ∙ (item_nodes core r).choose_says t first otherwise ∙ ap₃ (λ x y z. choose x.0 (items_view core r y.items) (items_view core r z.items)) (sym p) (sym q) (sym s)) h
 
 pub select_is : {R E : Type 0} (exits : Exits) (item : Item) (t found_t : TemporaryId) (cs found : Vec Case Global) (otherwise found_otherwise : Vec Item Global) (old new : List Block) (behind now : List Instruction) (result : Result R E) → item ≡ Select t cs otherwise → found_t ≡ t → found ≡ cs → found_otherwise ≡ otherwise → MadeFor exits (λ core r. select found_t.0 (cases_view core r found.items) (items_view core r found_otherwise.items)) old new behind now result → MadeFor exits (λ core r. item_view core r item) old new behind now result
 select_is exits item t found_t cs found otherwise found_otherwise old new behind now result e p q s h =
     item_is exits (λ core r. item_view core r item) (λ core r. select found_t.0 (cases_view core r found.items) (items_view core r found_otherwise.items)) old new behind now result
-    (λ core r. ap (item_view core r) e ∙ (item_nodes core r).select_says t cs otherwise ∙ three (λ x y z. select x.0 (cases_view core r y.items) (items_view core r z.items)) (sym p) (sym q) (sym s)) h
+    (λ core r. ap (item_view core r) e ∙ (item_nodes core r).select_says t cs otherwise ∙ ap₃ (λ x y z. select x.0 (cases_view core r y.items) (items_view core r z.items)) (sym p) (sym q) (sym s)) h
 
 pub loop_is : {R E : Type 0} (exits : Exits) (item : Item) (l found : Turns) (old new : List Block) (behind now : List Instruction) (result : Result R E) → item ≡ Loop l → found ≡ l → MadeFor exits (λ core r. loop (turns_view core r found)) old new behind now result → MadeFor exits (λ core r. item_view core r item) old new behind now result
 loop_is exits item l found old new behind now result e p h =
@@ -366,7 +361,7 @@ pub protect_is : {R E : Type 0} (exits : Exits) (item : Item) (t found_t : Tempo
 protect_is exits item t found_t keep items found finalization found_finalization old new behind now result e p q s h =
     let meant : ℕ → Core → ℕ → MeantItem = λ k core r. protect found_t.0 k (items_view core r found.items) (items_view core r found_finalization.items) in
     item_is exits (λ core r. item_view core r item) (meant keep) old new behind now result
-    (λ core r. ap (item_view core r) e ∙ (item_nodes core r).protect_says t keep items finalization ∙ three (λ x y z. protect x.0 keep (items_view core r y.items) (items_view core r z.items)) (sym p) (sym q) (sym s))
+    (λ core r. ap (item_view core r) e ∙ (item_nodes core r).protect_says t keep items finalization ∙ ap₃ (λ x y z. protect x.0 keep (items_view core r y.items) (items_view core r z.items)) (sym p) (sym q) (sym s))
     (at_keep (λ k. Makes (item_made exits (meant k) old behind) old new now) keep result h)
 
 pub leave_makes : {R E : Type 0} (exits : Exits) (item : Item) (way found : Way) (old : List Block) (behind now : List Instruction) (result : Result R E) → item ≡ Leave way → found ≡ way → IfOk result (λ _. (core : Core) (r : ℕ) → seen core r now ≡ exits_of exits (reason_of found)) → MadeFor exits (λ core r. item_view core r item) old old behind now result
@@ -404,6 +399,6 @@ body_grows made block on old new is =
 pub last_stands : {A : Type 0} (items changed rest : List A) (i j : A) (k : ℕ) → length items ≡ suc k → i ≡ slice_index_or items k i → changed ≡ slice_set items k j → rest ≡ take (length changed - 1) changed → items ≡ rest ++ i ∷ []
 last_stands items changed rest i j k counted is put left =
     let n : length changed - 1 ≡ k = omega (arith, ap length put ∙ length-set items k j, counted) in
-    let kept : rest ≡ take k items = left ∙ both take n put ∙ take-set items k j in
+    let kept : rest ≡ take k items = left ∙ ap₂ take n put ∙ take-set items k j in
     let whole : take (k + 1) items ≡ items = take_all (k + 1) items (omega (arith, counted)) in
-    sym whole ∙ take_more items k i (omega (arith, counted)) ∙ both (λ v x. v ++ x ∷ []) (sym kept) (sym is)
+    sym whole ∙ take_more items k i (omega (arith, counted)) ∙ ap₂ (λ v x. v ++ x ∷ []) (sym kept) (sym is)

@@ -1,5 +1,5 @@
 -- A whole program in managed code, from its routines and the program itself.
-use Rattle.std.proofs.Common.{◌≡◌, ◌≢◌, ℕ, ◌+◌, ◌-◌, ◌^◌, ◌<◌, ◌≤◌, min, true, false, nat_eq, List, [], ◌∷◌, ◌++◌, length, drop, refl, sym, ap, ◌∙◌, subst, arith, append_assoc, Option, Some, None, inl, inr, get_or, eqb, Result, Ok, Err, IfOk}
+use Rattle.std.proofs.Common.{◌≡◌, ◌≢◌, ℕ, ◌+◌, ◌-◌, ◌^◌, ◌<◌, ◌≤◌, min, true, false, nat_eq, List, [], ◌∷◌, ◌++◌, length, drop, refl, sym, ap, ◌∙◌, subst, arith, append_assoc, Option, Some, None, inl, inr, get_or, eqb, Result, Ok, Err, IfOk, ap₂}
 use Rattle.std.proofs.lemmas.List.{append-nil, length_push, map-append, at_drop_more, at_drop_all}
 use Rattle.std.proofs.lemmas.Option.{slice_get_past, slice_get_within, slice_get_cases, slice_get_read, get_or_from_slice_get}
 use Rattle.std.proofs.lemmas.Bool.Decides.{eqb_tells}
@@ -11,7 +11,7 @@ use Rattle.op_core.specs.declared.program.Core.{Core}
 use Rattle.op_core.specs.declared.program.Unit.{Unit as UnitRow}
 use Rattle.op_items.specs.View.{items_view}
 use Rattle.op_items.specs.declared.item.Item.{Item}
-use Rattle.op_lower.proofs.MadeLemmas.{both, block_of, as_made, seen_filled, Blocks}
+use Rattle.op_lower.proofs.MadeLemmas.{block_of, as_made, seen_filled, Blocks}
 use Rattle.op_lower.specs.Lowers.{IsRoutine, AreRoutines, IsProgram, Lowers}
 use Rattle.op_lower.specs.Made.{Makes, items_made}
 use Rattle.op_lower.specs.Seen.{seen, seen_blocks}
@@ -34,7 +34,7 @@ pub routine_blocks : (items : List Item) (b0 b1 b2 : List Block) (behind now : L
 routine_blocks items b0 b1 b2 behind now e h makes f core r =
     let made : ℕ → List Instr → Made = code routine_exits (items_view core r items) in
     let a = made 2 (jump 1 ∷ []) in
-    let m = as_made (made (length b0) (seen core r behind)) a (seen core r now) (seen_blocks core r b1) (seen_blocks core r b0) ([] ∷ (ret ∷ []) ∷ []) (both made (ap length e) (ap (seen core r) h)) (ap (seen_blocks core r) e) (makes core r) in
+    let m = as_made (made (length b0) (seen core r behind)) a (seen core r now) (seen_blocks core r b1) (seen_blocks core r b0) ([] ∷ (ret ∷ []) ∷ []) (ap₂ made (ap length e) (ap (seen core r) h)) (ap (seen_blocks core r) e) (makes core r) in
     let E : Blocks = [] in
     seen_filled core r b1 b2 0 now E [] ((ret ∷ []) ∷ a.blocks) m.1 refl f ∙ ap (λ x. x ∷ (ret ∷ []) ∷ a.blocks) m.0
 

@@ -132,7 +132,7 @@ bit_behind true n m k p q =
     ∙ last
 bit_behind false n m k p q = let e : 0 + m ≡ m = omega arith in ap (λ x. bit_at x k) e
 
-bits_below-lt : (n : ℕ) (test : ℕ → Bool) → bits_below n test < 2 ^ n
+pub bits_below-lt : (n : ℕ) (test : ℕ → Bool) → bits_below n test < 2 ^ n
 unfolding bits_below
 bits_below-lt zero test = omega arith
 bits_below-lt (suc n) test = in_front-lt (test n) n (bits_below n test) (bits_below-lt n test)

@@ -5,12 +5,12 @@ use Rattle.std.specs.Prelude.{ℕ, zero, suc, ◌+◌, ◌-◌, ◌*◌, Bool, t
 use Rattle.std.specs.List.{sum_by, filter}
 use Rattle.op_core.specs.declared.ids.TypeId.{TypeId}
 use Rattle.op_core.specs.declared.program.Core.{Core}
-use Rattle.op_meaning.specs.Actions.{Action, load, store, copy, look, begin_with, write_text}
+use Rattle.op_meaning.specs.Actions.{Action, constant, load, store, copy, look, begin_with, pick, arithmetic, compare, negate, complement, invert, absolute, odd, upper, low_bits, check, neighbour, single, span, combine, contains, check_set, write_number, write_truth, write_char, write_text}
 use Rattle.op_meaning.specs.Calls.{env_of}
 use Rattle.op_meaning.specs.Demands.{Demand, nothing, block, demand, size_of}
 use Rattle.op_meaning.specs.Expressions.{first_here, result_of}
 use Rattle.op_meaning.specs.Frames.{Program, State, Frame, Caller}
-use Rattle.op_meaning.specs.Items.{Given, by_value, by_reference, by_place, by_copy, Item, act, also, choose, select, loop, body_first, protect, enter, attempt, construct, Items, none, then_do, Turns, turns, Cases, no_cases, cases, Clauses, no_clauses, for_others, clauses, Task, item}
+use Rattle.op_meaning.specs.Items.{Given, by_value, by_reference, by_place, by_copy, Item, act, also, choose, select, loop, body_first, protect, leave, enter, finish, attempt, throw, rethrow, halt, construct, free, Items, none, then_do, Turns, turns, Cases, no_cases, cases, Clauses, no_clauses, for_others, clauses, Task, item, mark, turn, finally, resume, catching, handling, leaving, ending, due}
 use Rattle.op_meaning.specs.Machine.{step}
 use Rattle.op_meaning.specs.Paths.{Path, Step, field, element}
 use Rattle.op_meaning.specs.Statements.{work_of_all}
@@ -32,13 +32,33 @@ indices path = numbers (length (filter is_element_step path.steps))
 
 -- but for what is written
 abbrev pub action_bytes : Core → Action → ℕ
+action_bytes core (constant to n) = numbers 3
 action_bytes core (load to kind from) = numbers 1 + indices from
 action_bytes core (store to kind from) = numbers 1 + indices to
 action_bytes core (copy of to from) = size_of core of + indices to + indices from
 action_bytes core (look at) = indices at
 action_bytes core (begin_with v of value) = size_of core of
+action_bytes core (pick to text index) = numbers 3
+action_bytes core (arithmetic o checked to a b) = numbers 3
+action_bytes core (compare o to a b) = numbers 3
+action_bytes core (negate checked to a) = numbers 3
+action_bytes core (complement to a) = numbers 3
+action_bytes core (invert to a) = numbers 3
+action_bytes core (absolute checked to a) = numbers 3
+action_bytes core (odd to a) = numbers 3
+action_bytes core (upper to a) = numbers 3
+action_bytes core (low_bits kind to a) = numbers 3
+action_bytes core (check low high to a) = numbers 3
+action_bytes core (neighbour distance low high to a) = numbers 3
+action_bytes core (single to a) = numbers 3
+action_bytes core (span to a b) = numbers 3
+action_bytes core (combine o to a b) = numbers 3
+action_bytes core (contains to a b) = numbers 3
+action_bytes core (check_set all to a) = numbers 3
+action_bytes core (write_number from width) = numbers 3
+action_bytes core (write_truth from width) = numbers 3
+action_bytes core (write_char from width) = numbers 3
 action_bytes core (write_text text width) = numbers 1 + length text
-action_bytes core _ = numbers 3
 
 abbrev pub given_bytes : Core → Given → ℕ
 given_bytes core (by_value kind t) = numbers 1
@@ -48,13 +68,33 @@ given_bytes core (by_copy of path) = size_of core of + indices path
 
 abbrev pub item_bytes : Core → Item → ℕ
 item_bytes core (act a) = action_bytes core a
+item_bytes core (also truth t items) = numbers 1
+item_bytes core (choose t first otherwise) = numbers 1
+item_bytes core (select t cs otherwise) = numbers 1
+item_bytes core (loop l) = numbers 1
+item_bytes core (body_first l) = numbers 1
+item_bytes core (protect t keep items finalization) = numbers 1
+item_bytes core (leave what) = numbers 1
 item_bytes core (enter r given receiver) = sum_by (given_bytes core) given
+item_bytes core (finish keep) = numbers 1
+item_bytes core (attempt keep items cs) = numbers 1
+item_bytes core (throw t) = numbers 1
+item_bytes core rethrow = numbers 1
+item_bytes core (halt t) = numbers 1
 item_bytes core (construct c r given to) = sum_by (given_bytes core) given
-item_bytes core _ = numbers 1
+item_bytes core (free takes_nil t) = numbers 1
 
 abbrev pub task_bytes : Core → Task → ℕ
 task_bytes core (item i) = item_bytes core i
-task_bytes core _ = numbers 1
+task_bytes core (mark l) = numbers 1
+task_bytes core (turn l) = numbers 1
+task_bytes core (finally t keep finalization) = numbers 1
+task_bytes core (resume t keep) = numbers 1
+task_bytes core (catching keep cs) = numbers 1
+task_bytes core (handling keep instance) = numbers 1
+task_bytes core (leaving reason) = numbers 1
+task_bytes core (ending variables result) = numbers 1
+task_bytes core (due f) = numbers 1
 
 abbrev result_bytes : Core → Option TypeId → ℕ
 result_bytes core None = 0
@@ -89,16 +129,22 @@ abbrev mutual
   calls_in (then_do i is) = calls_at i + calls_in is
 
   pub calls_at : Item → ℕ
-  calls_at (enter r given receiver) = 1
-  calls_at (construct c r given to) = 1
+  calls_at (act a) = 0
   calls_at (also truth t is) = calls_in is
   calls_at (choose t a b) = calls_in a + calls_in b
   calls_at (select t cs others) = calls_among cs + calls_in others
   calls_at (loop l) = calls_in_turns l
   calls_at (body_first l) = calls_in_turns l
   calls_at (protect t keep is ts) = calls_in is + calls_in ts
+  calls_at (leave what) = 0
+  calls_at (enter r given receiver) = 1
+  calls_at (finish keep) = 0
   calls_at (attempt keep is cs) = calls_in is + calls_in_clauses cs
-  calls_at _ = 0
+  calls_at (throw t) = 0
+  calls_at rethrow = 0
+  calls_at (halt t) = 0
+  calls_at (construct c r given to) = 1
+  calls_at (free takes_nil t) = 0
 
   pub calls_in_turns : Turns → ℕ
   calls_in_turns (turns head t ends between body) = calls_in head + calls_in between + calls_in body

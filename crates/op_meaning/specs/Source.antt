@@ -1,11 +1,12 @@
 -- The source machine as a machine among others: its states, its step, what a step costs, and what it shows to the outside.
-use Rattle.std.specs.Prelude.{ℕ, ◌-◌, Bool, true, false, List, [], ◌∷◌, ◌++◌, length, map, take, drop}
+use Rattle.std.specs.Prelude.{ℕ, ◌-◌, Bool, true, false, IsTrue, List, [], ◌∷◌, ◌++◌, length, map, take, drop}
+use Rattle.std.specs.List.{list_any}
 use Rattle.op_simulation.specs.System.{System}
 use Rattle.op_meaning.specs.Actions.{Action}
 use Rattle.op_meaning.specs.Costs.{cost}
 use Rattle.op_meaning.specs.Demands.{Demand, nothing, demand, let_go}
 use Rattle.op_meaning.specs.Frames.{Program, State, Frame}
-use Rattle.op_meaning.specs.Items.{act, Task, item}
+use Rattle.op_meaning.specs.Items.{Item, act, also, choose, select, loop, body_first, protect, leave, enter, finish, attempt, throw, rethrow, halt, construct, free, Task, item, mark, turn, finally, resume, catching, handling, leaving, ending, due}
 use Rattle.op_meaning.specs.Machine.{step}
 use Rattle.op_meaning.specs.World.{World}
 
@@ -40,9 +41,36 @@ asked d = Asked d ∷ []
 abbrev pub looks : Action → Bool
 looks a = false
 
+abbrev looks_for : Item → Bool
+looks_for (act a) = looks a
+looks_for (also truth t items) = false
+looks_for (choose t first otherwise) = false
+looks_for (select t cs otherwise) = false
+looks_for (loop l) = false
+looks_for (body_first l) = false
+looks_for (protect t keep items finalization) = false
+looks_for (leave what) = false
+looks_for (enter r given receiver) = false
+looks_for (finish keep) = false
+looks_for (attempt keep items cs) = false
+looks_for (throw t) = false
+looks_for rethrow = false
+looks_for (halt t) = false
+looks_for (construct c r given to) = false
+looks_for (free takes_nil t) = false
+
 abbrev looks_in : List Task → Bool
-looks_in (item (act a) ∷ work) = looks a
-looks_in _ = false
+looks_in [] = false
+looks_in (item i ∷ work) = looks_for i
+looks_in (mark l ∷ work) = false
+looks_in (turn l ∷ work) = false
+looks_in (finally t keep finalization ∷ work) = false
+looks_in (resume t keep ∷ work) = false
+looks_in (catching keep cs ∷ work) = false
+looks_in (handling keep instance ∷ work) = false
+looks_in (leaving reason ∷ work) = false
+looks_in (ending variables result ∷ work) = false
+looks_in (due f ∷ work) = false
 
 abbrev looks_on : State → List Frame → Bool
 looks_on s [] = looks_in s.work
@@ -57,6 +85,19 @@ shown_by v w = where_some (λ bytes. Taken bytes) (taken v.input w.input) ++ whe
 
 abbrev pub shows : Program → State → List Event
 shows p s = looked (looks_on s s.frames) ++ asked (demand p s) ++ shown_by s.world (step p s).world ++ map (λ n. LetGo n) (let_go p s)
+
+-- what is shown of the input: it is looked at, or bytes of it are taken
+abbrev pub is_of_input : Event → Bool
+is_of_input (Asked demand) = false
+is_of_input (LetGo name) = false
+is_of_input Looked = true
+is_of_input (Taken bytes) = true
+is_of_input (Written bytes) = false
+is_of_input (Reported bytes) = false
+
+-- the step from here reads, or looks at, a byte of the input or its end
+abbrev pub LooksAtInput : Program → State → Type 0
+LooksAtInput p s = IsTrue (list_any is_of_input (shows p s))
 
 abbrev pub source : Program → System Event
 source p = record { State = State; step = step p; cost = cost p; shows = shows p }

@@ -1,7 +1,8 @@
 //! What the scripts in `bench/` and `tests/` ask of parts of the compiler.
 //!
 //! A word that is a command says what is told of the files behind it. `count` tells how many tokens a file has, and `list` each token
-//! with its place. `parse` tells what a file is, and `print` prints its tree. `words` decodes the words of code, and `listing` lists an
+//! with its place. `parse` tells what a file is, and `print` prints its tree. `typed` prints the typed program of a file and its units,
+//! `items` the items of its routines, and `managed` its managed code. `words` decodes the words of code, and `listing` lists an
 //! image. `make` reads low code, and `build` writes its image. The others tell of each case of a file (`cases`): `decode` of a word,
 //! `header`, `lines` and `run` of an image, `valid`, `select`, `frame` and `execute` of low code, and `linkable`, `link` and `segments`
 //! of objects.
@@ -19,6 +20,7 @@ mod operands;
 mod parts;
 mod tokens;
 mod trees;
+mod views;
 mod words;
 
 use crate::answers::built;
@@ -26,9 +28,10 @@ use op_base::{FileAnswer, Files, StdFiles};
 use op_listing::listing;
 use std::io::{self, Write};
 
-const COMMANDS: [&str; 19] = [
-    "count", "list", "parse", "print", "words", "listing", "make", "build", "decode", "header",
-    "lines", "run", "valid", "select", "frame", "execute", "linkable", "link", "segments",
+const COMMANDS: [&str; 22] = [
+    "count", "list", "parse", "print", "typed", "items", "managed", "words", "listing", "make",
+    "build", "decode", "header", "lines", "run", "valid", "select", "frame", "execute", "linkable",
+    "link", "segments",
 ];
 
 /// The most bytes that are read.
@@ -39,6 +42,9 @@ fn say(rt: &HostRuntime, line: &str) -> io::Result<()> {
 }
 
 fn tell_file(rt: &HostRuntime, command: &str, name: &str) -> io::Result<()> {
+    if matches!(command, "typed" | "items" | "managed") {
+        return views::tell(rt, command, name);
+    }
     let mut files = StdFiles::new(rt);
     match files.read(rt.alloc(), name, MOST_BYTES) {
         Ok(FileAnswer::Found(text)) => tell_bytes(rt, command, name, text.as_slice()),

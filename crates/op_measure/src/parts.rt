@@ -23,7 +23,7 @@ pub struct Parts<'a> {
     pub routines: Vec<RoutineLines<'a>>,
     pub globals: Vec<GlobalVariable>,
     pub counts: Counts,
-    literals: Vec<Text>,
+    literals: Vec<Vec<u8>>,
     /// What the one table holds.
     entries: Vec<RoutineId>,
 }
@@ -110,7 +110,7 @@ impl<'a> Parts<'a> {
     }
 
     fn add_literal(&mut self, bytes: Vec<u8>) -> Result<(), AllocError> {
-        Ok(self.literals.push(Text::from(bytes))?)
+        Ok(self.literals.push(bytes)?)
     }
 
     fn add_global(&mut self, bytes: Vec<u8>, zeros: u32) -> Result<(), AllocError> {

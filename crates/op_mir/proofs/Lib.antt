@@ -3,8 +3,10 @@ pub mod CallLemmas
 pub mod CodeRuns
 pub mod Following
 pub mod ItemLemmas
+pub mod NeedLemmas
 pub mod PlainLemmas
 pub mod PlainRuns
 pub mod PlainTestLemmas
 pub mod ShownLemmas
 pub mod StepLemmas
+pub mod Unmanaged

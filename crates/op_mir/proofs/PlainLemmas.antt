@@ -112,7 +112,7 @@ plain_if false v w hv hw = hw
 -- ---- errors
 
 -- an error ends the program
-failed_stops : (core : Core) → core.exceptions ≡ None → (n : ℕ) (w : World) → failed core n w ≡ stopped n w
+pub failed_stops : (core : Core) → core.exceptions ≡ None → (n : ℕ) (w : World) → failed core n w ≡ stopped n w
 failed_stops core e n w = rw e
 
 pub failed_ended : (core : Core) → core.exceptions ≡ None → (n : ℕ) (w : World) → (failed core n w).ending ≡ Ended n

@@ -1,8 +1,11 @@
 pub mod Code
+pub mod FrameNeed
 pub mod Going
+pub mod Kinds
 pub mod Machine
 pub mod Managed
 pub mod Plain
 pub mod PlainTests
+pub mod Shapes
 pub mod Valid
 pub mod View

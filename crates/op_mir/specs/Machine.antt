@@ -7,7 +7,7 @@ use Rattle.op_simulation.specs.System.{System}
 use Rattle.op_core.specs.Statement.{no_statements}
 use Rattle.op_core.specs.declared.ids.TypeId.{TypeId}
 use Rattle.op_core.specs.declared.program.Core.{Core}
-use Rattle.op_meaning.specs.Actions.{Action, load, store, copy, look, begin_with, perform}
+use Rattle.op_meaning.specs.Actions.{Action, constant, load, store, copy, look, begin_with, pick, arithmetic, compare, negate, complement, invert, absolute, odd, upper, low_bits, check, neighbour, single, span, combine, contains, check_set, write_number, write_truth, write_char, write_text, perform}
 use Rattle.op_meaning.specs.Calls.{Handed, all_handed, entered, received, result_in}
 use Rattle.op_meaning.specs.Costs.{indices, given_bytes}
 use Rattle.op_meaning.specs.Demands.{size_of, Demand, nothing, block_of, is_standing}
@@ -211,8 +211,17 @@ shown_between core looks v w =
     ++ map (λ n. LetGo n) (each v.next (λ n. if is_standing (v.objects n) && not (is_standing (w.objects n)) then n ∷ [] else []))
 
 abbrev pub looks_by : List Instr → Bool
+looks_by [] = false
 looks_by (do_act a landing ∷ rest) = looks a
-looks_by _ = false
+looks_by (do_call r given receiver landing ∷ rest) = false
+looks_by (jump k ∷ rest) = false
+looks_by (when t k ∷ rest) = false
+looks_by (unless t k ∷ rest) = false
+looks_by (switch t arms ∷ rest) = false
+looks_by (dispatch t k ∷ rest) = false
+looks_by (make_due f ∷ rest) = false
+looks_by (stop t ∷ rest) = false
+looks_by (ret ∷ rest) = false
 
 abbrev pub looks_on : List Instr → List Frame → Bool
 looks_on rest [] = looks_by rest
@@ -225,12 +234,33 @@ mir_shows c m = shown_between c.core (looks_on m.rest m.frames) m.world (mir_ste
 
 -- the bytes that an action moves, beside single numbers
 abbrev pub moved : Core → Action → ℕ
+moved core (constant to n) = 0
 moved core (load to kind from) = indices from
 moved core (store to kind from) = indices to
 moved core (copy of to from) = size_of core of + indices to + indices from
 moved core (look at) = indices at
 moved core (begin_with v of value) = size_of core of
-moved core _ = 0
+moved core (pick to text index) = 0
+moved core (arithmetic o checked to a b) = 0
+moved core (compare o to a b) = 0
+moved core (negate checked to a) = 0
+moved core (complement to a) = 0
+moved core (invert to a) = 0
+moved core (absolute checked to a) = 0
+moved core (odd to a) = 0
+moved core (upper to a) = 0
+moved core (low_bits kind to a) = 0
+moved core (check low high to a) = 0
+moved core (neighbour distance low high to a) = 0
+moved core (single to a) = 0
+moved core (span to a b) = 0
+moved core (combine o to a b) = 0
+moved core (contains to a b) = 0
+moved core (check_set all to a) = 0
+moved core (write_number from width) = 0
+moved core (write_truth from width) = 0
+moved core (write_char from width) = 0
+moved core (write_text text width) = 0
 
 abbrev result_bytes : Core → Option TypeId → ℕ
 result_bytes core None = 0
@@ -240,8 +270,14 @@ result_bytes core (Some of) = size_of core of
 abbrev pub instr_bytes : Core → ℕ → Instr → ℕ
 instr_bytes core r (do_act a landing) = moved core a
 instr_bytes core r (do_call id given receiver landing) = sum_by (given_bytes core) given
+instr_bytes core r (jump k) = 0
+instr_bytes core r (when t k) = 0
+instr_bytes core r (unless t k) = 0
+instr_bytes core r (switch t arms) = 0
+instr_bytes core r (dispatch t k) = 0
+instr_bytes core r (make_due f) = 0
+instr_bytes core r (stop t) = 0
 instr_bytes core r ret = result_bytes core (result_of (slice_get core.routines r))
-instr_bytes core r _ = 0
 
 abbrev rest_bytes : Core → ℕ → List Instr → ℕ
 rest_bytes core r [] = 0

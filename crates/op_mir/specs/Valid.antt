@@ -1,9 +1,16 @@
--- Managed code that names only what exists.
-use Rattle.std.specs.Prelude.{◌+◌, ◌-◌, Bool, true, false, ◌&&◌, Option, Some, None, List, length, slice_get, nat_lt}
+-- Managed code that may be compiled: it names only what exists, its operands have their kinds, its global variables have room, and each routine is
+-- charged at least what its frame needs.
+use Rattle.std.specs.Prelude.{ℕ, ◌+◌, ◌-◌, ◌^◌, min, Bool, true, false, ◌&&◌, Option, Some, None, List, [], ◌∷◌, length, slice_get, nat_eq, nat_le, nat_lt}
 use Rattle.std.specs.List.{list_all}
+use Rattle.op_core.specs.Sound.{bytes_of, globals_of}
 use Rattle.op_core.specs.declared.ids.RoutineId.{RoutineId}
+use Rattle.op_core.specs.declared.ids.Run.{Run}
 use Rattle.op_core.specs.declared.ids.TypeId.{TypeId}
 use Rattle.op_core.specs.declared.ids.VariableId.{VariableId}
+use Rattle.op_core.specs.declared.program.Core.{Core}
+use Rattle.op_meaning.specs.Shapes.{variables_of}
+use Rattle.op_mir.specs.FrameNeed.{frame_need}
+use Rattle.op_mir.specs.Kinds.{calls, has_kinds, is_part}
 use Rattle.op_mir.specs.declared.action.Action.{Action}
 use Rattle.op_mir.specs.declared.action.Action.TheVariants.{Constant, Load, Store, Copy, Look, BeginWith, Pick, Compute, Write, WriteText}
 use Rattle.op_mir.specs.declared.action.Computation.{Computation}
@@ -34,6 +41,10 @@ use Rattle.op_mir.specs.declared.path.Step.TheVariants.{Field, Element}
 
 abbrev pub has : Routine → TemporaryId → Bool
 has routine t = nat_lt t.0 routine.temporaries
+
+-- and the one behind it
+abbrev pub has_next : Routine → TemporaryId → Bool
+has_next routine t = nat_lt (t.0 + 1) routine.temporaries
 
 abbrev pub has_two : Routine → TemporaryId → TemporaryId → Bool
 has_two routine a b = has routine a && has routine b
@@ -142,12 +153,12 @@ receiver_fits mir routine (Place of to) = copied_fits mir routine of to
 unfoldable pub all_given_fit : Mir → Routine → List Given → Bool
 all_given_fit mir routine given = list_all (given_fits mir routine) given
 
-unfoldable pub call_fits : Mir → Routine → RoutineId → Operands → Bool
-call_fits mir routine r call =
-    has_routine mir r && all_given_fit mir routine call.given && receiver_fits mir routine call.receiver && has_landing routine call.landing
+unfoldable pub call_fits : Core → Mir → Run → Routine → RoutineId → Operands → Bool
+call_fits core mir variables routine r call =
+    has_routine mir r && all_given_fit mir routine call.given && receiver_fits mir routine call.receiver && calls core variables (slice_get core.routines r.0) call && has_landing routine call.landing
 
-unfoldable pub act_fits : Mir → Routine → Action → Option BlockId → Bool
-act_fits mir routine action landing = action_fits mir routine action && has_landing routine landing
+unfoldable pub act_fits : Core → Mir → Run → Routine → Action → Option BlockId → Bool
+act_fits core mir variables routine action landing = action_fits mir routine action && has_kinds core variables action && has_landing routine landing
 
 abbrev pub branch_fits : Routine → TemporaryId → BlockId → Bool
 branch_fits routine t block = has routine t && has_block routine block
@@ -158,39 +169,77 @@ arm_fits routine arm = has_block routine arm.block
 unfoldable pub switch_fits : Routine → TemporaryId → List Arm → Bool
 switch_fits routine t arms = has routine t && list_all (arm_fits routine) arms
 
+-- behind the temporary with the reason stands the one with the exception that waits
 abbrev pub dispatch_fits : Routine → TemporaryId → BlockId → Bool
-dispatch_fits routine t block = has routine t && has_ways routine block
+dispatch_fits routine t block = has_next routine t && has_ways routine block
 
-unfoldable pub is_valid_instruction : Mir → Routine → Instruction → Bool
-is_valid_instruction mir routine (Act action landing) = act_fits mir routine action landing
-is_valid_instruction mir routine (Call r call) = call_fits mir routine r call
-is_valid_instruction mir routine (Jump block) = has_block routine block
-is_valid_instruction mir routine (When t block) = branch_fits routine t block
-is_valid_instruction mir routine (Unless t block) = branch_fits routine t block
-is_valid_instruction mir routine (Switch t arms) = switch_fits routine t arms
-is_valid_instruction mir routine (Dispatch t block) = dispatch_fits routine t block
-is_valid_instruction mir routine (MakeDue r) = has_routine mir r
-is_valid_instruction mir routine (Stop t) = has routine t
-is_valid_instruction mir routine Return = true
+abbrev pub part_fits : Core → Mir → RoutineId → Bool
+part_fits core mir r = has_routine mir r && is_part (slice_get core.routines r.0)
 
--- ---- blocks, routines and programs
+-- in a routine with these variables
+unfoldable pub is_valid_instruction : Core → Mir → Run → Routine → Instruction → Bool
+is_valid_instruction core mir variables routine (Act action landing) = act_fits core mir variables routine action landing
+is_valid_instruction core mir variables routine (Call r call) = call_fits core mir variables routine r call
+is_valid_instruction core mir variables routine (Jump block) = has_block routine block
+is_valid_instruction core mir variables routine (When t block) = branch_fits routine t block
+is_valid_instruction core mir variables routine (Unless t block) = branch_fits routine t block
+is_valid_instruction core mir variables routine (Switch t arms) = switch_fits routine t arms
+is_valid_instruction core mir variables routine (Dispatch t block) = dispatch_fits routine t block
+is_valid_instruction core mir variables routine (MakeDue r) = part_fits core mir r
+is_valid_instruction core mir variables routine (Stop t) = has routine t
+is_valid_instruction core mir variables routine Return = true
+
+-- ---- blocks and routines
 
 -- the code never goes on behind it
 unfoldable pub leaves : Instruction → Bool
 leaves (Jump block) = true
 leaves Return = true
-leaves _ = false
+leaves (Act action landing) = false
+leaves (Call r call) = false
+leaves (When t block) = false
+leaves (Unless t block) = false
+leaves (Switch t arms) = false
+leaves (Dispatch t block) = false
+leaves (MakeDue r) = false
+leaves (Stop t) = false
 
 abbrev pub leaves_if : Option Instruction → Bool
 leaves_if None = false
 leaves_if (Some i) = leaves i
 
-unfoldable pub is_valid_block : Mir → Routine → Block → Bool
-is_valid_block mir routine block =
-    leaves_if (slice_get block.code (length block.code - 1)) && list_all (is_valid_instruction mir routine) block.code
+unfoldable pub is_valid_block : Core → Mir → Run → Routine → Block → Bool
+is_valid_block core mir variables routine block =
+    leaves_if (slice_get block.code (length block.code - 1)) && list_all (is_valid_instruction core mir variables routine) block.code
 
-unfoldable pub is_valid_routine : Mir → Routine → Bool
-is_valid_routine mir routine = nat_lt 0 (length routine.blocks) && list_all (is_valid_block mir routine) routine.blocks
+-- it has the variables of its row, and a block to begin with
+unfoldable pub is_valid_routine : Core → Mir → Run → Routine → Bool
+is_valid_routine core mir variables routine =
+    nat_eq routine.locals variables.count && nat_lt 0 (length routine.blocks) && list_all (is_valid_block core mir variables routine) routine.blocks
 
-unfoldable pub is_valid : Mir → Bool
-is_valid mir = is_valid_routine mir mir.program && list_all (is_valid_routine mir) mir.routines
+-- The charge is at least the need. A need above the greatest number of 64 bits counts as that number, as a charge does.
+abbrev pub is_charged : Core → ℕ → Routine → Bool
+is_charged core r routine = nat_le (min (frame_need core r routine) (2 ^ 64 - 1)) routine.charge
+
+-- those from the number r on
+abbrev pub are_valid_from : Core → Mir → ℕ → List Routine → Bool
+are_valid_from core mir r [] = true
+are_valid_from core mir r (x ∷ xs) = is_valid_routine core mir (variables_of core r) x && is_charged core r x && are_valid_from core mir (r + 1) xs
+
+-- ---- programs
+
+-- the tables beside it are those that it counts
+abbrev pub has_tables : Core → Mir → Bool
+has_tables core mir = nat_eq mir.counts.types (length core.types) && nat_eq mir.counts.variables (length core.variables) && nat_eq (length mir.routines) (length core.routines)
+
+-- the values of all global variables take together no more bytes than a program may have
+abbrev pub most_globals : ℕ
+most_globals = 8388608
+
+abbrev pub globals_have_room : Core → Bool
+globals_have_room core = nat_le (bytes_of core (globals_of core)) most_globals
+
+-- The program itself is charged nothing: it stands below all activations.
+unfoldable pub is_valid : Core → Mir → Bool
+is_valid core mir =
+    has_tables core mir && globals_have_room core && is_valid_routine core mir (variables_of core (length core.routines)) mir.program && are_valid_from core mir 0 mir.routines

@@ -1,55 +1,122 @@
-//! Whether managed code names only what exists.
-ghost use Rattle.op_mir.specs.Valid.{act_fits, action_fits, all_given_fit, arm_fits, branch_fits, call_fits, computation_fits, copied_fits, copy_fits, dispatch_fits, given_fits, has, has_block, has_landing, has_local, has_routine, has_three, has_two, has_type, has_variable, has_ways, is_valid, is_valid_block, is_valid_instruction, is_valid_routine, leaves, leaves_if, load_fits, path_fits, receiver_fits, root_fits, step_fits, switch_fits, writing_fits};
+//! Whether managed code names only what exists, has operands of their kinds, and needs no more than there is.
+ghost use Rattle.op_core.specs.Sound.{bytes_of, globals_of};
+ghost use Rattle.op_meaning.specs.Shapes.{variables_of};
+ghost use Rattle.op_mir.specs.Valid.{act_fits, action_fits, all_given_fit, are_valid_from, arm_fits, branch_fits, call_fits, computation_fits, copied_fits, copy_fits, dispatch_fits, given_fits, globals_have_room, has, has_block, has_landing, has_local, has_next, has_routine, has_tables, has_three, has_two, has_type, has_variable, has_ways, is_charged, is_valid, is_valid_block, is_valid_instruction, is_valid_routine, leaves, leaves_if, load_fits, part_fits, path_fits, receiver_fits, root_fits, step_fits, switch_fits, writing_fits};
 ghost use Rattle.std.specs.List.{list_all};
+ghost use Rattle.std.specs.Option.{option_to_list};
 ghost use Rattle.std.specs.Prelude.{◌≡◌, ◌-◌, length, slice_get};
 
+use crate::frame_need::frame_need;
+use crate::kinds::{calls, has_kinds, is_part};
 use crate::{
     Action, Arm, Block, BlockId, Call, Computation, Given, Instruction, LocalId, Mir, Path,
     Receiver, Root, Routine, Step, TemporaryId, Writing,
 };
-use op_core::{RoutineId, TypeId, VariableId};
+use op_core::{Core, RoutineId, Run, TypeId, VariableId, size_of};
 
-/// Whether the code may be compiled further: every routine, block, variable, temporary and type that it names exists, each routine has
-/// a block to begin with, and each block is left by its last instruction.
+/// The bytes that the values of all global variables may have together.
+const MOST_GLOBALS: u64 = 8_388_608;
+
+/// Whether the code may be compiled further, beside these tables: every routine, block, place, temporary and type that it names exists, operands have their
+/// kinds, each routine has a block to begin with and each block is left by its last instruction, the sizes of all global variables are together
+/// at most 8,388,608 bytes, and each routine is charged at least what its frame needs.
 #[tactic(auto, unfolding(crate::specs::Valid::is_valid))]
-pub fn valid(mir: &Mir) -> bool
-    ensures { result ≡ is_valid mir.now }
+pub fn valid(core: &Core, mir: &Mir) -> bool
+    ensures { result ≡ is_valid core.now mir.now }
 {
-    valid_routine(mir, &mir.program) && all_routines(mir, mir.routines.as_slice())
+    let own = variables_of(core, core.routines.as_slice().len());
+    has_tables(core, mir)
+        && globals_have_room(core)
+        && valid_routine(core, mir, own, &mir.program)
+        && all_routines(core, mir, mir.routines.as_slice())
 }
 
-fn all_routines(mir: &Mir, routines: &[Routine]) -> bool
-    ensures { result ≡ list_all (is_valid_routine mir.now) routines.now }
+fn has_tables(core: &Core, mir: &Mir) -> bool
+    ensures { result ≡ has_tables core.now mir.now }
 {
-    routines.iter().all(|routine| valid_routine(mir, routine))
+    mir.counts.types as usize == core.types.as_slice().len()
+        && mir.counts.variables as usize == core.variables.as_slice().len()
+        && mir.routines.as_slice().len() == core.routines.as_slice().len()
+}
+
+fn globals_have_room(core: &Core) -> bool
+    ensures { result ≡ globals_have_room core.now }
+{
+    let mut sum = 0u64;
+    for id in core.globals.as_slice() {
+        sum = sum.saturating_add(bytes_of_global(core, *id));
+    }
+    sum <= MOST_GLOBALS
+}
+
+fn bytes_of_global(core: &Core, id: VariableId) -> u64
+    ensures { result ≡ bytes_of core.now (option_to_list (slice_get core.now.variables id.0)) }
+{
+    match core.variables.as_slice().get(id.0 as usize) {
+        None => 0,
+        Some(row) => size_of(core, row.of) as u64,
+    }
+}
+
+/// The rows of the variables of a routine.
+pub(crate) fn variables_of(core: &Core, routine: usize) -> Run
+    ensures { result ≡ variables_of core.now routine }
+{
+    match core.routines.as_slice().get(routine) {
+        None => Run { first: 0, count: 0 },
+        Some(row) => row.variables,
+    }
+}
+
+fn all_routines(core: &Core, mir: &Mir, routines: &[Routine]) -> bool
+    ensures { result ≡ are_valid_from core.now mir.now 0 routines.now }
+{
+    for (r, routine) in routines.iter().enumerate() {
+        if !valid_routine(core, mir, variables_of(core, r), routine) {
+            return false;
+        }
+        if frame_need(core, r, routine) > routine.charge {
+            return false;
+        }
+    }
+    true
 }
 
 #[tactic(auto, unfolding(crate::specs::Valid::is_valid_routine))]
-fn valid_routine(mir: &Mir, routine: &Routine) -> bool
-    ensures { result ≡ is_valid_routine mir.now routine.now }
+fn valid_routine(core: &Core, mir: &Mir, variables: Run, routine: &Routine) -> bool
+    ensures { result ≡ is_valid_routine core.now mir.now variables routine.now }
 {
-    0 < routine.blocks.as_slice().len() && all_blocks(mir, routine, routine.blocks.as_slice())
+    routine.locals == variables.count
+        && 0 < routine.blocks.as_slice().len()
+        && all_blocks(core, mir, variables, routine, routine.blocks.as_slice())
 }
 
-fn all_blocks(mir: &Mir, routine: &Routine, blocks: &[Block]) -> bool
-    ensures { result ≡ list_all (is_valid_block mir.now routine.now) blocks.now }
+fn all_blocks(core: &Core, mir: &Mir, variables: Run, routine: &Routine, blocks: &[Block]) -> bool
+    ensures { result ≡ list_all (is_valid_block core.now mir.now variables routine.now) blocks.now }
 {
-    blocks.iter().all(|block| valid_block(mir, routine, block))
+    blocks
+        .iter()
+        .all(|block| valid_block(core, mir, variables, routine, block))
 }
 
 #[tactic(auto, unfolding(crate::specs::Valid::is_valid_block))]
-fn valid_block(mir: &Mir, routine: &Routine, block: &Block) -> bool
-    ensures { result ≡ is_valid_block mir.now routine.now block.now }
+fn valid_block(core: &Core, mir: &Mir, variables: Run, routine: &Routine, block: &Block) -> bool
+    ensures { result ≡ is_valid_block core.now mir.now variables routine.now block.now }
 {
     let code = block.code.as_slice();
-    is_left(code) && all_instructions(mir, routine, code)
+    is_left(code) && all_instructions(core, mir, variables, routine, code)
 }
 
-fn all_instructions(mir: &Mir, routine: &Routine, code: &[Instruction]) -> bool
-    ensures { result ≡ list_all (is_valid_instruction mir.now routine.now) code.now }
+fn all_instructions(
+    core: &Core,
+    mir: &Mir,
+    variables: Run,
+    routine: &Routine,
+    code: &[Instruction],
+) -> bool
+    ensures { result ≡ list_all (is_valid_instruction core.now mir.now variables routine.now) code.now }
 {
-    code.iter()
-        .all(|instruction| valid_instruction(mir, routine, instruction))
+    code.iter().all(|instruction| valid_instruction(core, mir, variables, routine, instruction))
 }
 
 fn is_left(code: &[Instruction]) -> bool
@@ -74,13 +141,24 @@ fn leaves_block(instruction: &Instruction) -> bool
 
 // ---- instructions
 
+/// In a routine with these variables.
 #[tactic(auto, unfolding(crate::specs::Valid::is_valid_instruction))]
-fn valid_instruction(mir: &Mir, routine: &Routine, instruction: &Instruction) -> bool
-    ensures { result ≡ is_valid_instruction mir.now routine.now instruction.now }
+fn valid_instruction(
+    core: &Core,
+    mir: &Mir,
+    variables: Run,
+    routine: &Routine,
+    instruction: &Instruction,
+) -> bool
+    ensures { result ≡ is_valid_instruction core.now mir.now variables routine.now instruction.now }
 {
     match instruction {
-        Instruction::Act { action, landing } => valid_act(mir, routine, action, *landing),
-        Instruction::Call { routine: id, call } => valid_call(mir, routine, *id, call),
+        Instruction::Act { action, landing } => {
+            valid_act(core, mir, variables, routine, action, *landing)
+        }
+        Instruction::Call { routine: id, call } => {
+            valid_call(core, mir, variables, routine, *id, call)
+        }
         Instruction::Jump { block } => has_head(routine, *block),
         Instruction::When { temporary, block } => valid_branch(routine, *temporary, *block),
         Instruction::Unless { temporary, block } => valid_branch(routine, *temporary, *block),
@@ -90,26 +168,45 @@ fn valid_instruction(mir: &Mir, routine: &Routine, instruction: &Instruction) ->
             arms.as_slice(),
         ),
         Instruction::Dispatch { temporary, block } => valid_dispatch(routine, *temporary, *block),
-        Instruction::MakeDue { finalization } => names_routine(mir, *finalization),
+        Instruction::MakeDue { finalization } => {
+            names_routine(mir, *finalization) && is_part(core, *finalization)
+        }
         Instruction::Stop { status } => has_one(routine, *status),
         Instruction::Return => true,
     }
 }
 
 #[tactic(auto, unfolding(crate::specs::Valid::act_fits))]
-fn valid_act(mir: &Mir, routine: &Routine, action: &Action, landing: Option<BlockId>) -> bool
-    ensures { result ≡ act_fits mir.now routine.now action.now landing }
+fn valid_act(
+    core: &Core,
+    mir: &Mir,
+    variables: Run,
+    routine: &Routine,
+    action: &Action,
+    landing: Option<BlockId>,
+) -> bool
+    ensures { result ≡ act_fits core.now mir.now variables routine.now action.now landing }
 {
-    valid_action(mir, routine, action) && lands(routine, landing)
+    valid_action(mir, routine, action)
+        && has_kinds(core, variables, action)
+        && lands(routine, landing)
 }
 
 #[tactic(auto, unfolding(crate::specs::Valid::call_fits))]
-fn valid_call(mir: &Mir, routine: &Routine, id: RoutineId, call: &Call) -> bool
-    ensures { result ≡ call_fits mir.now routine.now id call.now }
+fn valid_call(
+    core: &Core,
+    mir: &Mir,
+    variables: Run,
+    routine: &Routine,
+    id: RoutineId,
+    call: &Call,
+) -> bool
+    ensures { result ≡ call_fits core.now mir.now variables routine.now id call.now }
 {
     names_routine(mir, id)
         && all_given(mir, routine, call.given.as_slice())
         && valid_receiver(mir, routine, &call.receiver)
+        && calls(core, variables, id, call)
         && lands(routine, call.landing)
 }
 
@@ -171,7 +268,7 @@ fn valid_arm(routine: &Routine, arm: &Arm) -> bool
 fn valid_dispatch(routine: &Routine, temporary: TemporaryId, block: BlockId) -> bool
     ensures { result ≡ dispatch_fits routine.now temporary block }
 {
-    has_one(routine, temporary) && leads_three_ways(routine, block)
+    has_next(routine, temporary) && leads_three_ways(routine, block)
 }
 
 // ---- actions
@@ -333,6 +430,13 @@ fn has_one(routine: &Routine, a: TemporaryId) -> bool
     ensures { result ≡ has routine.now a }
 {
     a.0 < routine.temporaries
+}
+
+/// Whether the temporary behind it exists too.
+fn has_next(routine: &Routine, a: TemporaryId) -> bool
+    ensures { result ≡ has_next routine.now a }
+{
+    (a.0 as u64) + 1 < routine.temporaries as u64
 }
 
 fn has_both(routine: &Routine, a: TemporaryId, b: TemporaryId) -> bool

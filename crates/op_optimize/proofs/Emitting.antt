@@ -1,6 +1,7 @@
 -- An instruction that stays, over the registers of the better code, does what it did.
 use Rattle.std.proofs.Common.{◌≡◌, ℕ, suc, ◌+◌, ◌%◌, ◌^◌, Bool, true, false, not, if◌then◌else◌, Option, Some, None, List, [], ◌∷◌, length, map, nat_eq, refl, ap, ap₂, sym, ◌∙◌, subst, arith, mul_comm}
 use Rattle.std.proofs.lemmas.Bool.{eqb-true, eq-eqb, or_left, or_right}
+use Rattle.std.proofs.lemmas.Option.{same_Some}
 use Rattle.std.specs.Int.{from_bool}
 use Rattle.std.specs.List.{list_any}
 use Rattle.op_optimize.specs.Reading.{same}
@@ -25,15 +26,15 @@ use Rattle.op_optimize.specs.declared.fact.Value.TheVariants.{Copy, Number, Diff
 use Rattle.op_optimize.specs.declared.value.NumberForm.{NumberForm}
 use Rattle.op_optimize.specs.declared.value.NumberForm.TheVariants.{Imm, ByShift}
 use Rattle.op_optimize.proofs.Facts.{meaning}
-use Rattle.op_optimize.proofs.Meanings.{folded_means, form_value, opposite_holds, some_is}
+use Rattle.op_optimize.proofs.Meanings.{folded_means, form_value, opposite_holds}
 
 -- the register that has a value has it
 pub source_means : (s : ℕ → ℕ) (nothing : VirtualRegister) → s nothing.0 ≡ 0 → (v : Value) (a : VirtualRegister) → source_by nothing v ≡ Some a → s a.0 ≡ meaning s v
-source_means s nothing none (Copy of) a is = ap (λ r. s r.0) (sym (some_is is))
+source_means s nothing none (Copy of) a is = ap (λ r. s r.0) (sym (same_Some _ _ is))
 source_means s nothing none (Number n) a is = by (nat_eq n 0) refl is
   where
     by : (t : Bool) → nat_eq n 0 ≡ t → (if t then Some nothing else None) ≡ Some a → s a.0 ≡ n
-    by true e is = ap (λ r. s r.0) (sym (some_is is)) ∙ none ∙ sym (eqb-true n 0 e)
+    by true e is = ap (λ r. s r.0) (sym (same_Some _ _ is)) ∙ none ∙ sym (eqb-true n 0 e)
     by false e is = absurd cc
 source_means s nothing none (Difference left right) a is = absurd cc
 source_means s nothing none (Truth op left right) a is = absurd cc
@@ -58,7 +59,7 @@ module _ (better : Low) (p : Placement) (n : State) (to : VirtualRegister) where
       by None o e d is = absurd cc
       by (Some f) None e d is = absurd cc
       by (Some f) (Some a) e d is =
-          subst (λ i. Does i (alu_value op x y)) (some_is is)
+          subst (λ i. Does i (alu_value op x y)) (same_Some _ _ is)
           (folded_does f a ∙ ap (λ z. keep to z n) (folded_means op k (value n a) f e ∙ ap₂ (alu_value op) (has a d) means))
   with_value_does op left (Copy of) j x y is has means = absurd cc
   with_value_does op left (Difference a b) j x y is has means = absurd cc
@@ -104,7 +105,7 @@ module _ (better : Low) (p : Placement) (n : State) (to : VirtualRegister) where
       plain : (a b : Option VirtualRegister) → source facts nothing left ≡ a → source facts nothing right ≡ b → alu_both op to a b ≡ Some j → Does j (alu_value op x y)
       plain None b e d is = absurd cc
       plain (Some a) None e d is = absurd cc
-      plain (Some a) (Some b) e d is = subst (λ i. Does i (alu_value op x y)) (some_is is) (ap (λ z. keep to z n) (ap₂ (alu_value op) (has_left a e) (has_right b d)))
+      plain (Some a) (Some b) e d is = subst (λ i. Does i (alu_value op x y)) (same_Some _ _ is) (ap (λ z. keep to z n) (ap₂ (alu_value op) (has_left a e) (has_right b d)))
 
       by : (o q : Option Instruction) → with_value op to (source facts nothing left) (value_in facts right) ≡ o → with_left facts nothing op to left right ≡ q → first_of o (first_of q (alu_both op to (source facts nothing left) (source facts nothing right))) ≡ Some j → Does j (alu_value op x y)
       by (Some i) q e d is = with_value_does op (source facts nothing left) (value_in facts right) j x y (e ∙ is) has_left right_means
@@ -114,11 +115,11 @@ module _ (better : Low) (p : Placement) (n : State) (to : VirtualRegister) where
   -- a register becomes a value
   pub moved_does : (v : Value) (j : Instruction) (x : ℕ) → moved to v ≡ Some j → meaning n.top.registers v ≡ x → Does j x
   unfolding moved act
-  moved_does (Copy of) j x is means = subst (λ i. Does i x) (some_is is) (ap (λ z. keep to z n) means)
-  moved_does (Number k) j x is means = subst (λ i. Does i x) (some_is is) (ap (λ z. keep to z n) means)
-  moved_does (Difference left right) j x is means = subst (λ i. Does i x) (some_is is) (ap (λ z. keep to z n) means)
-  moved_does (Truth Blt left right) j x is means = subst (λ i. Does i x) (some_is is) (ap (λ z. keep to z n) means)
-  moved_does (Truth Bltu left right) j x is means = subst (λ i. Does i x) (some_is is) (ap (λ z. keep to z n) means)
+  moved_does (Copy of) j x is means = subst (λ i. Does i x) (same_Some _ _ is) (ap (λ z. keep to z n) means)
+  moved_does (Number k) j x is means = subst (λ i. Does i x) (same_Some _ _ is) (ap (λ z. keep to z n) means)
+  moved_does (Difference left right) j x is means = subst (λ i. Does i x) (same_Some _ _ is) (ap (λ z. keep to z n) means)
+  moved_does (Truth Blt left right) j x is means = subst (λ i. Does i x) (same_Some _ _ is) (ap (λ z. keep to z n) means)
+  moved_does (Truth Bltu left right) j x is means = subst (λ i. Does i x) (same_Some _ _ is) (ap (λ z. keep to z n) means)
   moved_does (Truth Beq left right) j x is means = absurd cc
   moved_does (Truth Bne left right) j x is means = absurd cc
   moved_does (Truth Bge left right) j x is means = absurd cc
@@ -136,12 +137,12 @@ pub record Branches (s : ℕ → ℕ) (op : BranchOp) (x y : ℕ) (block : Block
 
 module _ (s : ℕ → ℕ) (facts : List Fact) (nothing : VirtualRegister) (none : s nothing.0 ≡ 0) where
   truth_tested : (op truth new : BranchOp) (a b : ℕ) → tested op truth ≡ Some new → branch_taken new a b ≡ branch_taken op (from_bool (branch_taken truth a b)) 0
-  truth_tested Bne truth new a b is = ap (λ o. branch_taken o a b) (sym (some_is is)) ∙ by (branch_taken truth a b)
+  truth_tested Bne truth new a b is = ap (λ o. branch_taken o a b) (sym (same_Some _ _ is)) ∙ by (branch_taken truth a b)
     where
       by : (t : Bool) → t ≡ not (nat_eq (from_bool t) 0)
       by true = refl
       by false = refl
-  truth_tested Beq truth new a b is = ap (λ o. branch_taken o a b) (sym (some_is is)) ∙ opposite_holds truth a b ∙ by (branch_taken truth a b)
+  truth_tested Beq truth new a b is = ap (λ o. branch_taken o a b) (sym (same_Some _ _ is)) ∙ opposite_holds truth a b ∙ by (branch_taken truth a b)
     where
       by : (t : Bool) → not t ≡ nat_eq (from_bool t) 0
       by true = refl
@@ -169,7 +170,7 @@ module _ (s : ℕ → ℕ) (facts : List Fact) (nothing : VirtualRegister) (none
             op_of = op;
             left_of = a;
             right_of = b;
-            is = sym (some_is is);
+            is = sym (same_Some _ _ is);
             taken = ap₂ (branch_taken op) (source_means s nothing none (value_in facts left) a e ∙ left_means) (source_means s nothing none (value_in facts right) b d ∙ right_means);
           }
 
@@ -185,7 +186,7 @@ module _ (s : ℕ → ℕ) (facts : List Fact) (nothing : VirtualRegister) (none
                 op_of = new;
                 left_of = a;
                 right_of = b;
-                is = sym (some_is is);
+                is = sym (same_Some _ _ is);
                 taken = truth_tested op truth new (s a.0) (s b.0) d ∙ ap₂ (branch_taken op) means no;
               }
 
@@ -204,7 +205,7 @@ module _ (old s : ℕ → ℕ) (facts : List Fact) (nothing : VirtualRegister) (
   -- the same values, and as many
   pub sources_pass : (rs new : List VirtualRegister) → ((r : VirtualRegister) → list_any (λ a. same a r) rs ≡ true → old r.0 ≡ meaning s (value_in facts r)) → sources facts nothing rs ≡ Some new → (length new ≡ length rs) × (map (value_at s) new ≡ map (value_at old) rs)
   unfolding sources source
-  sources_pass [] new means is = subst (λ (l : List VirtualRegister). (length l ≡ 0) × (map (value_at s) l ≡ [])) (some_is is) (refl, refl)
+  sources_pass [] new means is = subst (λ (l : List VirtualRegister). (length l ≡ 0) × (map (value_at s) l ≡ [])) (same_Some _ _ is) (refl, refl)
   sources_pass (r ∷ rs) new means is = by (source_by nothing (value_in facts r)) (sources facts nothing rs) refl refl is (λ l e. sources_pass rs l (λ x there. means x (or_right (same r x) _ there)) e)
     where
       by : (o : Option VirtualRegister) (q : Option (List VirtualRegister)) → source_by nothing (value_in facts r) ≡ o → sources facts nothing rs ≡ q → and_one o q ≡ Some new → ((l : List VirtualRegister) → sources facts nothing rs ≡ Some l → (length l ≡ length rs) × (map (value_at s) l ≡ map (value_at old) rs)) → (length new ≡ suc (length rs)) × (map (value_at s) new ≡ old r.0 ∷ map (value_at old) rs)
@@ -213,5 +214,5 @@ module _ (old s : ℕ → ℕ) (facts : List Fact) (nothing : VirtualRegister) (
       by (Some a) (Some l) e d is rest =
           let others = rest l d in
           let first : s a.0 ≡ old r.0 = source_means s nothing none (value_in facts r) a e ∙ sym (means r (or_left (same r r) _ (eq-eqb r.0 r.0 refl))) in
-          subst (λ (k : List VirtualRegister). (length k ≡ suc (length rs)) × (map (value_at s) k ≡ old r.0 ∷ map (value_at old) rs)) (some_is is)
+          subst (λ (k : List VirtualRegister). (length k ≡ suc (length rs)) × (map (value_at s) k ≡ old r.0 ∷ map (value_at old) rs)) (same_Some _ _ is)
           (ap suc others.0, ap₂ (λ v vs. v ∷ vs) first others.1)

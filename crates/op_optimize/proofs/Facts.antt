@@ -2,6 +2,7 @@
 use Rattle.std.proofs.Common.{◌≡◌, ℕ, zero, suc, Bool, true, false, ◌&&◌, ◌||◌, not, if◌then◌else◌, Option, Some, None, List, [], ◌∷◌, ◌++◌, nat_eq, refl, ap, ap₂, sym, ◌∙◌, subst, take}
 use Rattle.std.proofs.lemmas.Bool.{and_parts, eqb-true, eqb-false, eq-eqb}
 use Rattle.std.specs.Int.{from_bool}
+use Rattle.op_base.proofs.Tests.{eqb-turned}
 use Rattle.op_low.specs.declared.ids.VirtualRegister.{VirtualRegister}
 use Rattle.op_low.specs.declared.instruction.Instruction.{Instruction}
 use Rattle.op_rv.specs.Operation.{alu_value, branch_taken}
@@ -18,7 +19,7 @@ use Rattle.op_optimize.specs.declared.fact.Fact.{Fact}
 use Rattle.op_optimize.specs.declared.fact.Known.{Known}
 use Rattle.op_optimize.specs.declared.fact.Value.{Value}
 use Rattle.op_optimize.specs.declared.fact.Value.TheVariants.{Copy, Number, Difference, Truth}
-use Rattle.op_optimize.proofs.Needing.{dead_is_not_needed, not_same}
+use Rattle.op_optimize.proofs.Needing.{dead_is_not_needed}
 
 -- what a value is, over the registers of the better code
 abbrev pub meaning : (ℕ → ℕ) → Value → ℕ
@@ -34,7 +35,7 @@ pub at_itself : (s : ℕ → ℕ) (to : VirtualRegister) (v : ℕ) → updated s
 at_itself s to v = ap (λ t. if t then v else s to.0) (eq-eqb to.0 to.0 refl)
 
 pub at_another : (s : ℕ → ℕ) (to r : VirtualRegister) (v : ℕ) → same to r ≡ false → updated s to v r.0 ≡ s r.0
-at_another s to r v other = ap (λ t. if t then v else s r.0) (not_same to.0 r.0 other)
+at_another s to r v other = ap (λ t. if t then v else s r.0) (eqb-turned to.0 r.0 other)
 
 pub same_register : (a b : VirtualRegister) → same a b ≡ true → a ≡ b
 same_register a b is = ap (λ n. record { 0 = n }) (eqb-true a.0 b.0 is)
@@ -132,18 +133,18 @@ module _ (s : ℕ → ℕ) (last : VirtualRegister) (x : ℕ) where
   -- what does not mention it stays
   pub meaning_stays : (v : Value) → mentions v last ≡ false → meaning (updated s last x) v ≡ meaning s v
   unfolding mentions
-  meaning_stays (Copy of) none = at_another s last of x (not_same of.0 last.0 none)
+  meaning_stays (Copy of) none = at_another s last of x (eqb-turned of.0 last.0 none)
   meaning_stays (Number n) none = refl
   meaning_stays (Difference left right) none =
       let parts = or_parts (same left last) (same right last) none in
-      ap₂ (alu_value Xor) (at_another s last left x (not_same left.0 last.0 parts.0)) (at_another s last right x (not_same right.0 last.0 parts.1))
+      ap₂ (alu_value Xor) (at_another s last left x (eqb-turned left.0 last.0 parts.0)) (at_another s last right x (eqb-turned right.0 last.0 parts.1))
     where
       or_parts : (a b : Bool) → (a || b) ≡ false → (a ≡ false) × (b ≡ false)
       or_parts true b is = absurd cc
       or_parts false b is = (refl, is)
   meaning_stays (Truth op left right) none =
       let parts = or_parts (same left last) (same right last) none in
-      ap₂ (λ a b. from_bool (branch_taken op a b)) (at_another s last left x (not_same left.0 last.0 parts.0)) (at_another s last right x (not_same right.0 last.0 parts.1))
+      ap₂ (λ a b. from_bool (branch_taken op a b)) (at_another s last left x (eqb-turned left.0 last.0 parts.0)) (at_another s last right x (eqb-turned right.0 last.0 parts.1))
     where
       or_parts : (a b : Bool) → (a || b) ≡ false → (a ≡ false) × (b ≡ false)
       or_parts true b is = absurd cc
@@ -172,12 +173,12 @@ module _ (s : ℕ → ℕ) (last : VirtualRegister) (x : ℕ) where
       by : (t m : Bool) → same f.register r ≡ t → mentions f.value last ≡ m → (same f.register last || (not (mentions f.value last) || is_dead live is f.register)) ≡ true → meaning (updated s last x) (value_in (behind_write fs last) r) ≡ meaning s (value_in fs r) → meaning (updated s last x) (value_in (behind_write (f ∷ fs) last) r) ≡ meaning s (value_in (f ∷ fs) r)
       by true true d m may_f rest =
           let is_r = same_register f.register r d in
-          let apart : same f.register last ≡ false = ap (λ a. same a last) is_r ∙ not_same last.0 r.0 other in
+          let apart : same f.register last ≡ false = ap (λ a. same a last) is_r ∙ eqb-turned last.0 r.0 other in
           let dead = or_dead _ _ _ may_f apart m in
           absurd (dead_is_not_needed live is r (subst (λ a. is_dead live is a ≡ true) is_r dead) needed)
       by true false d m may_f rest =
           let is_r = same_register f.register r d in
-          let apart : same f.register last ≡ false = ap (λ a. same a last) is_r ∙ not_same last.0 r.0 other in
+          let apart : same f.register last ≡ false = ap (λ a. same a last) is_r ∙ eqb-turned last.0 r.0 other in
           let kept : (not (same f.register last) && not (mentions f.value last)) ≡ true = ap₂ (λ a b. not a && not b) apart m in
           ap (λ t. meaning (updated s last x) (value_in (if t then f ∷ behind_write fs last else behind_write fs last) r)) kept
           ∙ ap (λ u. meaning (updated s last x) (value_or r (if u then Some f.value else look_up (behind_write fs last) r))) d
@@ -212,7 +213,7 @@ module _ (address : Symbol → ℕ) (s : ℕ → ℕ) where
     where
       by : (t : Bool) → same k.register last ≡ t → Knows address (updated s last x) (others ks last) → Knows address (updated s last x) (if t then others ks last else k ∷ others ks last)
       by true e rest = rest
-      by false e rest = (at_another s last k.register x (not_same k.register.0 last.0 e) ∙ knows.0, rest)
+      by false e rest = (at_another s last k.register x (eqb-turned k.register.0 last.0 e) ∙ knows.0, rest)
 
   -- what an instruction puts there is known behind it
   pub knows_behind : (last : VirtualRegister) (x : ℕ) (i : Instruction) (known : List Known) → ((c : Content) → content_of i ≡ Some c → x ≡ content_value address c) → Knows address s known → Knows address (updated s last x) (known_behind known last i)

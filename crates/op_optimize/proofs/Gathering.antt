@@ -1,7 +1,7 @@
 -- Lists that are gathered item by item.
 use Rattle.std.proofs.Common.{◌≡◌, ℕ, zero, suc, Some, List, [], ◌∷◌, ◌++◌, slice_get, take, ap, sym, ◌∙◌, subst, subst₂}
+use Rattle.std.proofs.lemmas.Option.{same_Some}
 use Rattle.op_optimize.specs.Each.{Each, NoneLeft, OneMore}
-use Rattle.op_optimize.proofs.Meanings.{some_is}
 
 pub each_behind : {T U : Type 0} {R : T → U → Type 0} (xs : List T) (ys : List U) (x : T) (y : U) → Each R xs ys → R x y → Each R (xs ++ x ∷ []) (ys ++ y ∷ [])
 each_behind [] [] x y NoneLeft r = OneMore r NoneLeft
@@ -11,7 +11,7 @@ each_behind (a ∷ xs) (b ∷ ys) x y (OneMore first rest) r = OneMore first (ea
 
 take_more : {T : Type 0} (xs : List T) (k : ℕ) (x : T) → slice_get xs k ≡ Some x → take (suc k) xs ≡ take k xs ++ x ∷ []
 take_more [] k x is = absurd cc
-take_more (a ∷ xs) zero x is = ap (λ b. b ∷ []) (some_is is)
+take_more (a ∷ xs) zero x is = ap (λ b. b ∷ []) (same_Some _ _ is)
 take_more (a ∷ xs) (suc k) x is = ap (λ l. a ∷ l) (take_more xs k x is)
 
 -- one more of a list, and what is made of it

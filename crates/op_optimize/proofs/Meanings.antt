@@ -3,11 +3,12 @@ use Rattle.std.proofs.Common.{◌≡◌, ◌≢◌, ℕ, ℤ, pos, zero, suc, �
 use Rattle.std.proofs.lemmas.Bool.{and_parts, eqb-true, eq-eqb, ltb-true, leb-true, cases_eq}
 use Rattle.std.proofs.lemmas.Bool.Decides.{nat_tests}
 use Rattle.std.proofs.lemmas.Int.{ints}
-use Rattle.std.proofs.lemmas.Nat.{and_le_l, and_le_r}
+use Rattle.std.proofs.lemmas.Option.{same_Some}
 use Rattle.std.specs.Int.{from_bool}
-use Rattle.std.specs.Int.Bits.{bit_xor, xor_add_and, xor_self}
+use Rattle.std.specs.Int.Bits.{bit_xor, xor_self}
 use Rattle.std.specs.List.{list_any}
 use Rattle.std.specs.Ordering.{int_eq}
+use Rattle.op_rv.proofs.Numbers.{xor_apart}
 use Rattle.op_rv.specs.Operation.{alu_value, branch_taken, imm_value, shift_value, word_from}
 use Rattle.op_rv.specs.declared.instruction.AluOp.{AluOp}
 use Rattle.op_rv.specs.declared.instruction.AluOp.TheVariants.{Add, Sub, Sll, Slt, Sltu, Xor, Srl, Sra, Or, And, Mul, Mulh, Mulhsu, Mulhu, Div, Divu, Rem, Remu}
@@ -34,9 +35,6 @@ use Rattle.op_optimize.proofs.Facts.{Knows, content_value, meaning}
 abbrev or_else : {T : Type 0} → T → Option T → T
 or_else a None = a
 or_else a (Some b) = b
-
-pub some_is : {T : Type 0} {a b : T} → Some a ≡ Some b → a ≡ b
-some_is {a = a} is = ap (or_else a) is
 
 -- ---- comparisons
 
@@ -65,9 +63,6 @@ other_bit : (b : Bool) → bit_xor (from_bool b) 1 ≡ from_bool (not b)
 other_bit true = refl
 other_bit false = refl
 
-xor_apart : (a b : ℕ) → a ≢ b → nat_lt (bit_xor a b) 1 ≡ false
-xor_apart a b p = grind (arith, nat_tests, xor_add_and a b, and_le_l a b, and_le_r a b)
-
 no_difference : (a b : ℕ) → nat_lt (bit_xor a b) 1 ≡ nat_eq a b
 no_difference a b =
     elim (cases_eq a b) [
@@ -90,11 +85,11 @@ unfolding value_with_one
 one_means s nothing none op v w imm one is = ap (λ z. imm_value op (meaning s v) (word_from z)) (one_is imm one) ∙ by op v is
   where
     by : (op : ImmOp) (v : Value) → value_with_one nothing op v ≡ Some w → imm_value op (meaning s v) (word_from (pos 1)) ≡ meaning s w
-    by Sltiu (Copy of) is = ap from_bool (below_one (s of.0) ∙ ap (nat_eq (s of.0)) (sym none)) ∙ ap (meaning s) (some_is is)
+    by Sltiu (Copy of) is = ap from_bool (below_one (s of.0) ∙ ap (nat_eq (s of.0)) (sym none)) ∙ ap (meaning s) (same_Some _ _ is)
     by Sltiu (Number n) is = absurd cc
-    by Sltiu (Difference left right) is = ap from_bool (no_difference (s left.0) (s right.0)) ∙ ap (meaning s) (some_is is)
-    by Sltiu (Truth op left right) is = ap from_bool (changed (branch_taken op (s left.0) (s right.0)) ∙ sym (opposite_holds op (s left.0) (s right.0))) ∙ ap (meaning s) (some_is is)
-    by Xori (Truth op left right) is = other_bit (branch_taken op (s left.0) (s right.0)) ∙ ap from_bool (sym (opposite_holds op (s left.0) (s right.0))) ∙ ap (meaning s) (some_is is)
+    by Sltiu (Difference left right) is = ap from_bool (no_difference (s left.0) (s right.0)) ∙ ap (meaning s) (same_Some _ _ is)
+    by Sltiu (Truth op left right) is = ap from_bool (changed (branch_taken op (s left.0) (s right.0)) ∙ sym (opposite_holds op (s left.0) (s right.0))) ∙ ap (meaning s) (same_Some _ _ is)
+    by Xori (Truth op left right) is = other_bit (branch_taken op (s left.0) (s right.0)) ∙ ap from_bool (sym (opposite_holds op (s left.0) (s right.0))) ∙ ap (meaning s) (same_Some _ _ is)
     by Xori (Copy of) is = absurd cc
     by Xori (Number n) is = absurd cc
     by Xori (Difference left right) is = absurd cc
@@ -105,9 +100,9 @@ one_means s nothing none op v w imm one is = ap (λ z. imm_value op (meaning s v
 
 -- so has an operation on two registers
 pub alu_means : (s : ℕ → ℕ) (op : AluOp) (left right : VirtualRegister) (w : Value) → alu_by op left right ≡ Some w → alu_value op (s left.0) (s right.0) ≡ meaning s w
-alu_means s Slt left right w is = ap (meaning s) (some_is is)
-alu_means s Sltu left right w is = ap (meaning s) (some_is is)
-alu_means s Xor left right w is = ap (meaning s) (some_is is)
+alu_means s Slt left right w is = ap (meaning s) (same_Some _ _ is)
+alu_means s Sltu left right w is = ap (meaning s) (same_Some _ _ is)
+alu_means s Xor left right w is = ap (meaning s) (same_Some _ _ is)
 alu_means s Add left right w is = absurd cc
 alu_means s Sub left right w is = absurd cc
 alu_means s Sll left right w is = absurd cc
@@ -177,10 +172,10 @@ near_means : (op : ImmOp) (n x : ℕ) (f : NumberForm) → near op n ≡ Some f 
 near_means op n x f is = by (nat_lt n 2048) (nat_le (2 ^ 32 - 2048) n && nat_lt n (2 ^ 32)) refl refl is
   where
     by : (t u : Bool) → nat_lt n 2048 ≡ t → (nat_le (2 ^ 32 - 2048) n && nat_lt n (2 ^ 32)) ≡ u → (if t then Some (Imm op (pos n)) else (if u then Some (Imm op (pos n -ℤ pos (2 ^ 32))) else None)) ≡ Some f → form_value f x ≡ imm_value op x n
-    by true u e d is = ap (λ g. form_value g x) (sym (some_is is)) ∙ ap (imm_value op x) (small_word n (ltb-true n 2048 e))
+    by true u e d is = ap (λ g. form_value g x) (sym (same_Some _ _ is)) ∙ ap (imm_value op x) (small_word n (ltb-true n 2048 e))
     by false true e d is =
         let parts = and_parts _ _ d in
-        ap (λ g. form_value g x) (sym (some_is is)) ∙ ap (imm_value op x) (high_word n (leb-true (2 ^ 32 - 2048) n parts.0) (ltb-true n (2 ^ 32) parts.1))
+        ap (λ g. form_value g x) (sym (same_Some _ _ is)) ∙ ap (imm_value op x) (high_word n (leb-true (2 ^ 32 - 2048) n parts.0) (ltb-true n (2 ^ 32) parts.1))
     by false false e d is = absurd cc
 
 difference_is : (x n : ℕ) → (x + (2 ^ 32 - n) % 2 ^ 32) % 2 ^ 32 ≡ (x + (2 ^ 32 - n)) % 2 ^ 32
@@ -191,7 +186,7 @@ unfolding power_of
 power_means n x f is = by (nat_eq n 2) (nat_eq n 4) (nat_eq n 8) (nat_eq n 16) (nat_eq n 32) (nat_eq n 64) (nat_eq n 128) (nat_eq n 256) refl refl refl refl refl refl refl refl is
   where
     power : (k m : ℕ) → 2 ^ k ≡ m → nat_eq n m ≡ true → Some (ByShift Slli k) ≡ Some f → form_value f x ≡ x * n % 2 ^ 32
-    power k m e is_m is_f = ap (λ g. form_value g x) (sym (some_is is_f)) ∙ ap (λ c. x * c % 2 ^ 32) (e ∙ sym (eqb-true n m is_m))
+    power k m e is_m is_f = ap (λ g. form_value g x) (sym (same_Some _ _ is_f)) ∙ ap (λ c. x * c % 2 ^ 32) (e ∙ sym (eqb-true n m is_m))
 
     by : (a b c d e g h i : Bool) → nat_eq n 2 ≡ a → nat_eq n 4 ≡ b → nat_eq n 8 ≡ c → nat_eq n 16 ≡ d → nat_eq n 32 ≡ e → nat_eq n 64 ≡ g → nat_eq n 128 ≡ h → nat_eq n 256 ≡ i → power_by (if a then 1 else (if b then 2 else (if c then 3 else (if d then 4 else (if e then 5 else (if g then 6 else (if h then 7 else (if i then 8 else 0)))))))) ≡ Some f → form_value f x ≡ x * n % 2 ^ 32
     by true b c d e g h i is_a is_b is_c is_d is_e is_g is_h is_i is = power 1 2 refl is_a is
@@ -214,9 +209,9 @@ folded_means Or n x f is = near_means Ori n x f is
 folded_means Xor n x f is = near_means Xori n x f is
 folded_means Slt n x f is = near_means Slti n x f is
 folded_means Sltu n x f is = near_means Sltiu n x f is
-folded_means Sll n x f is = ap (λ g. form_value g x) (sym (some_is is))
-folded_means Srl n x f is = ap (λ g. form_value g x) (sym (some_is is))
-folded_means Sra n x f is = ap (λ g. form_value g x) (sym (some_is is))
+folded_means Sll n x f is = ap (λ g. form_value g x) (sym (same_Some _ _ is))
+folded_means Srl n x f is = ap (λ g. form_value g x) (sym (same_Some _ _ is))
+folded_means Sra n x f is = ap (λ g. form_value g x) (sym (same_Some _ _ is))
 folded_means Mul n x f is = power_means n x f is
 folded_means Mulh n x f is = absurd cc
 folded_means Mulhsu n x f is = absurd cc

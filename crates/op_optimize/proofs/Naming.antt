@@ -2,6 +2,7 @@
 use Rattle.std.proofs.Common.{◌≡◌, ℕ, zero, suc, ◌≤◌, ◌<◌, Bool, true, false, ◌||◌, not, if◌then◌else◌, ◌⊎◌, inl, inr, Some, None, List, [], ◌∷◌, map, slice_get, slice_index, length, nat_eq, nat_lt, nat_le, refl, ap, sym, ◌∙◌, arith}
 use Rattle.std.proofs.lemmas.Bool.{and_parts, eqb-true, eqb-false, ltb-true, ltb-false, leb-true}
 use Rattle.std.proofs.lemmas.List.{get_or_past}
+use Rattle.op_base.proofs.Tests.{eqb-turned}
 use Rattle.op_low.specs.State.{code_or, value_in}
 use Rattle.op_low.specs.Valid.{leaves}
 use Rattle.op_low.specs.declared.code.Block.{Block}
@@ -12,7 +13,7 @@ use Rattle.op_rv.specs.declared.symbol.BlockId.{BlockId}
 use Rattle.op_optimize.specs.Liveness.{is_closed, is_live, is_live_beyond, is_live_in, is_lost, needs, other_block}
 use Rattle.op_optimize.specs.Reading.{same, reads, target_of, is_some_one}
 use Rattle.op_optimize.specs.Renaming.{renamed, renamed_code, renamed_block, is_moved, is_apart, are_apart, may_write, is_safe_code, are_safe_blocks, begins_well, all_begin_well, is_renaming}
-use Rattle.op_optimize.proofs.Needing.{each_below, implied, not_same, same_other_way, needs_read, needs_beyond, needs_behind, dead_is_not_needed, goes_on_behind, needed_is_live}
+use Rattle.op_optimize.proofs.Needing.{each_below, implied, same_other_way, needs_read, needs_beyond, needs_behind, dead_is_not_needed, goes_on_behind, needed_is_live}
 
 -- what code needs has the same values under the new names
 pub record Have (live names : List ℕ) (registers : ℕ) (code : List Instruction) (old new : ℕ → ℕ) : Type 0 where
@@ -82,9 +83,9 @@ module _ (live names : List ℕ) (registers : ℕ) (i : Instruction) (is : List 
   written_value to r v target apart moved have less needed true false is_to is_name =
       absurd (eqb-false _ _ is_name (ap (λ n. (renamed names (record { 0 = n })).0) (eqb-true r.0 to.0 is_to)))
   written_value to r v target apart moved have less needed false false is_to is_name =
-      have.has r less (needs_behind live i is r (not_lost to r target (not_same _ _ is_to)) needed)
+      have.has r less (needs_behind live i is r (not_lost to r target (eqb-turned _ _ is_to)) needed)
   written_value to r v target apart moved have less needed false true is_to is_name =
-      elim (apart_gives _ _ _ _ (apart_at to r apart less) (not_same _ _ is_to) (same_other_way _ _ is_name)) [
+      elim (apart_gives _ _ _ _ (apart_at to r apart less) (eqb-turned _ _ is_to) (same_other_way _ _ is_name)) [
         | inl is_from ↦ moved r is_from
         | inr dead ↦ absurd (dead_is_not_needed live is r dead needed)
       ]
@@ -95,7 +96,7 @@ module _ (live names : List ℕ) (registers : ℕ) (i : Instruction) (is : List 
 
   idle_value : (to r : VirtualRegister) (v : ℕ) → target_of i ≡ Some to → value_in new (renamed names to) ≡ v → Have live names registers (i ∷ is) old new → r.0 < registers → needs live is r ≡ true → (t : Bool) → nat_eq r.0 to.0 ≡ t → value_in new (renamed names r) ≡ (if t then v else value_in old r)
   idle_value to r v target there have less needed true is_to = ap (λ n. value_in new (renamed names (record { 0 = n }))) (eqb-true r.0 to.0 is_to) ∙ there
-  idle_value to r v target there have less needed false is_to = have.has r less (needs_behind live i is r (not_lost to r target (not_same _ _ is_to)) needed)
+  idle_value to r v target there have less needed false is_to = have.has r less (needs_behind live i is r (not_lost to r target (eqb-turned _ _ is_to)) needed)
 
   -- the name has the value already
   pub have_idle : (to : VirtualRegister) (v : ℕ) → target_of i ≡ Some to → value_in new (renamed names to) ≡ v → Have live names registers (i ∷ is) old new → Have live names registers is (λ r. if nat_eq r to.0 then v else old r) new

@@ -1,8 +1,8 @@
 -- What code needs of registers: step by step, and where a block begins.
 use Rattle.std.proofs.Common.{◌≡◌, ℕ, zero, suc, ◌+◌, ◌≤◌, ◌<◌, Bool, true, false, ◌&&◌, ◌||◌, not, if◌then◌else◌, inl, inr, Some, List, [], ◌∷◌, slice_get, take, min, nat_eq, refl, ap, sym, ◌∙◌, subst, arith}
-use Rattle.std.proofs.lemmas.Bool.{and_parts, or_left, or_right, cases_lt, eqb-true, eqb-false, eq-eqb}
-use Rattle.std.proofs.lemmas.Bool.Decides.{eqb_tells}
+use Rattle.std.proofs.lemmas.Bool.{and_parts, or_left, or_right, cases_lt, eqb-true, eq-eqb}
 use Rattle.std.specs.List.{list_all, list_any}
+use Rattle.op_base.proofs.Tests.{eqb-turned}
 use Rattle.op_low.specs.State.{code_or}
 use Rattle.op_low.specs.Valid.{leaves, has, has_all, is_valid_instruction, imm_fits, shift_fits, branch_fits, operands_fit, call_fits, call_at_fits}
 use Rattle.op_low.specs.declared.code.Block.{Block}
@@ -25,9 +25,6 @@ each_below all test next (suc n) x less is =
       | inl below ↦ each_below all test next n x below parts.0
       | inr over ↦ let e : n ≡ x = omega arith in subst (λ k. test k ≡ true) e parts.1
     ]
-
-pub not_same : (a b : ℕ) → nat_eq a b ≡ false → nat_eq b a ≡ false
-not_same a b is = elim (eqb_tells b a) [ inl h ↦ absurd (eqb-false a b is (sym h.1)) | inr h ↦ h.0 ]
 
 pub same_other_way : (a b : ℕ) → nat_eq a b ≡ true → nat_eq b a ≡ true
 same_other_way a b is = eq-eqb b a (sym (eqb-true a b is))

@@ -1,6 +1,7 @@
 -- Code that is gone through without leaving anything out stays as it is.
 use Rattle.std.proofs.Common.{◌≡◌, ℕ, Bool, true, false, ◌&&◌, not, if◌then◌else◌, Option, Some, None, List, [], ◌∷◌, refl, ap, ◌∙◌, subst, arith}
 use Rattle.std.proofs.lemmas.Bool.{and_parts, eqb-true, eq-eqb, ltb-true}
+use Rattle.std.proofs.lemmas.Option.{same_Some}
 use Rattle.std.specs.List.{list_all}
 use Rattle.op_low.specs.Valid.{address_fits, call_at_fits, call_fits, const_fits, has, imm_fits, is_valid_instruction, local_fits, operands_fit, shift_fits}
 use Rattle.op_low.specs.declared.code.Low.{Low}
@@ -17,7 +18,6 @@ use Rattle.op_optimize.specs.Simplifying.{contents_behind, destination, facts_be
 use Rattle.op_optimize.specs.Values.{is_commutative}
 use Rattle.op_optimize.specs.declared.fact.Known.{Known}
 use Rattle.op_optimize.specs.declared.fact.Value.TheVariants.{Copy}
-use Rattle.op_optimize.proofs.Meanings.{some_is}
 
 sources_stay : (nothing : VirtualRegister) (rs : List VirtualRegister) → sources [] nothing rs ≡ Some rs
 unfolding sources source value_in look_up
@@ -64,22 +64,22 @@ rewritten_stays nothing (Exit status) = refl
 -- a register of the routine is written
 pub targets_fit : (low : Low) (routine : Routine) (i : Instruction) (to : VirtualRegister) → is_valid_instruction low routine i ≡ true → target_of i ≡ Some to → has routine to ≡ true
 unfolding is_valid_instruction target_of const_fits address_fits local_fits imm_fits shift_fits call_fits call_at_fits operands_fit
-targets_fit low routine (Const t n) to valid is = subst (λ r. has routine r ≡ true) (some_is is) (and_parts _ _ valid).0
-targets_fit low routine (Address t symbol) to valid is = subst (λ r. has routine r ≡ true) (some_is is) (and_parts _ _ valid).0
-targets_fit low routine (Local t offset) to valid is = subst (λ r. has routine r ≡ true) (some_is is) (and_parts _ _ valid).0
-targets_fit low routine (Move t from) to valid is = subst (λ r. has routine r ≡ true) (some_is is) (and_parts _ _ valid).0
-targets_fit low routine (Alu op t left right) to valid is = subst (λ r. has routine r ≡ true) (some_is is) (and_parts _ _ (and_parts _ _ valid).0).0
-targets_fit low routine (AluImm op t left imm) to valid is = subst (λ r. has routine r ≡ true) (some_is is) (and_parts _ _ (and_parts _ _ valid).0).0
-targets_fit low routine (Shift op t left amount) to valid is = subst (λ r. has routine r ≡ true) (some_is is) (and_parts _ _ (and_parts _ _ valid).0).0
-targets_fit low routine (Load op t base offset) to valid is = subst (λ r. has routine r ≡ true) (some_is is) (and_parts _ _ (and_parts _ _ valid).0).0
+targets_fit low routine (Const t n) to valid is = subst (λ r. has routine r ≡ true) (same_Some _ _ is) (and_parts _ _ valid).0
+targets_fit low routine (Address t symbol) to valid is = subst (λ r. has routine r ≡ true) (same_Some _ _ is) (and_parts _ _ valid).0
+targets_fit low routine (Local t offset) to valid is = subst (λ r. has routine r ≡ true) (same_Some _ _ is) (and_parts _ _ valid).0
+targets_fit low routine (Move t from) to valid is = subst (λ r. has routine r ≡ true) (same_Some _ _ is) (and_parts _ _ valid).0
+targets_fit low routine (Alu op t left right) to valid is = subst (λ r. has routine r ≡ true) (same_Some _ _ is) (and_parts _ _ (and_parts _ _ valid).0).0
+targets_fit low routine (AluImm op t left imm) to valid is = subst (λ r. has routine r ≡ true) (same_Some _ _ is) (and_parts _ _ (and_parts _ _ valid).0).0
+targets_fit low routine (Shift op t left amount) to valid is = subst (λ r. has routine r ≡ true) (same_Some _ _ is) (and_parts _ _ (and_parts _ _ valid).0).0
+targets_fit low routine (Load op t base offset) to valid is = subst (λ r. has routine r ≡ true) (same_Some _ _ is) (and_parts _ _ (and_parts _ _ valid).0).0
 targets_fit low routine (Store op v base offset) to valid is = absurd cc
-targets_fit low routine (Call id call) to valid is = subst (λ r. has routine r ≡ true) (some_is is) (and_parts _ _ (and_parts _ _ (and_parts _ _ valid).1).0).1
-targets_fit low routine (CallAt address call) to valid is = subst (λ r. has routine r ≡ true) (some_is is) (and_parts _ _ (and_parts _ _ (and_parts _ _ valid).1).0).1
+targets_fit low routine (Call id call) to valid is = subst (λ r. has routine r ≡ true) (same_Some _ _ is) (and_parts _ _ (and_parts _ _ (and_parts _ _ valid).1).0).1
+targets_fit low routine (CallAt address call) to valid is = subst (λ r. has routine r ≡ true) (same_Some _ _ is) (and_parts _ _ (and_parts _ _ (and_parts _ _ valid).1).0).1
 targets_fit low routine (Branch op left right block) to valid is = absurd cc
 targets_fit low routine (Jump block) to valid is = absurd cc
 targets_fit low routine (Return v) to valid is = absurd cc
 targets_fit low routine Raise to valid is = absurd cc
-targets_fit low routine (Read t buffer size) to valid is = subst (λ r. has routine r ≡ true) (some_is is) (and_parts _ _ (and_parts _ _ valid).0).0
+targets_fit low routine (Read t buffer size) to valid is = subst (λ r. has routine r ≡ true) (same_Some _ _ is) (and_parts _ _ (and_parts _ _ valid).0).0
 targets_fit low routine (Write output buffer size) to valid is = absurd cc
 targets_fit low routine (Exit status) to valid is = absurd cc
 

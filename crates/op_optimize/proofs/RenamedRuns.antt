@@ -1,11 +1,11 @@
 -- Code with other names for its registers does the same in no more steps.
-use Rattle.std.proofs.Common.{◌≡◌, ◌≢◌, ℕ, suc, ◌+◌, ◌-◌, Bool, true, false, if◌then◌else◌, Option, Some, None, List, [], ◌∷◌, map, slice_get, length, replicate, refl, ap, sym, ◌∙◌, subst, subst₂, arith}
+use Rattle.std.proofs.Common.{◌≡◌, ◌≢◌, ℕ, suc, ◌+◌, ◌-◌, Bool, true, false, ◌||◌, if◌then◌else◌, Option, Some, None, List, [], ◌∷◌, map, slice_get, length, replicate, refl, ap, ap₂, sym, ◌∙◌, subst, subst₂, arith}
 use Rattle.std.proofs.lemmas.Bool.{eqb-true, eq-eqb, and_parts, or_left}
 use Rattle.std.specs.List.{list_all}
-use Rattle.op_rv.specs.State.{with_bytes}
-use Rattle.op_low.specs.Machine.{NeverBad, act, cost, cost_by, cost_next, done, entered, start, step, step_by_ending}
+use Rattle.op_rv.specs.State.{all_from, bytes_from, with_bytes}
+use Rattle.op_low.specs.Machine.{NeverBad, Taken, Written, act, cost, cost_by, cost_next, done, entered, shown_by, shown_if, shows, start, step, step_by_ending, taken}
 use Rattle.op_low.specs.Runs.{RunsValid}
-use Rattle.op_low.specs.State.{Activation, Bad, Caller, Ended, Placement, Running, State, bad, keep, routine_of, routine_or, space, value, value_in}
+use Rattle.op_low.specs.State.{Activation, Bad, Caller, Ended, Placement, Running, State, bad, keep, routine_of, routine_or, space, usable, value, value_in}
 use Rattle.op_low.specs.Valid.{is_valid, is_valid_instruction, takes}
 use Rattle.op_low.proofs.ValidRuns.{start_runs, step_runs}
 use Rattle.op_low.specs.declared.code.Low.{Low}
@@ -21,6 +21,7 @@ use Rattle.op_optimize.specs.Stepping.{Leads, Moves, Skips, StepIs}
 use Rattle.op_optimize.proofs.Acting.{acts, map_length}
 use Rattle.op_optimize.proofs.Standing.{Alike, BothEnded, BothGo, CallersStand, EndsAlike, Finds, GoesAlike, NamesStand, NoCallers, Related, Stands, StandsAlike, StandsNamed, behind, enters, finds_alike, finds_named, locals_stay, named_idle, with_parts}
 use Rattle.op_optimize.proofs.Stepping.{shortens}
+use Rattle.op_optimize.proofs.Steps.{shows_ended, shows_is}
 
 -- ---- without names nothing is renamed
 
@@ -118,6 +119,39 @@ module _ (low better : Low) (p : Placement) (each : EachRoutine RenamesRoutine l
   same_cost names (Write output buffer size) m n operands = refl
   same_cost names (Exit status) m n operands = refl
 
+  -- ---- what it shows
+
+  same_shown : (names : List ℕ) (i : Instruction) (m : State) (b : Activation) (ds : List Caller) → ((r : VirtualRegister) → reads i r ≡ true → value (with_parts b ds m) (renamed names r) ≡ value m r) → shown_by p (renamed_instruction names i) (with_parts b ds m) ≡ shown_by p i m
+  unfolding shown_by renamed_instruction renamed_call reads
+  same_shown names (Const to k) m b ds operands = refl
+  same_shown names (Address to symbol) m b ds operands = refl
+  same_shown names (Local to offset) m b ds operands = refl
+  same_shown names (Move to from) m b ds operands = refl
+  same_shown names (Alu op to left right) m b ds operands = refl
+  same_shown names (AluImm op to left imm) m b ds operands = refl
+  same_shown names (Shift op to left amount) m b ds operands = refl
+  same_shown names (Load op to base offset) m b ds operands = refl
+  same_shown names (Store op v base offset) m b ds operands = refl
+  same_shown names (Call id call) m b ds operands = refl
+  same_shown names (CallAt address call) m b ds operands = refl
+  same_shown names (Branch op left right block) m b ds operands = refl
+  same_shown names (Jump block) m b ds operands = refl
+  same_shown names (Return v) m b ds operands = refl
+  same_shown names Raise m b ds operands = refl
+  same_shown names (Read to buffer size) m b ds operands =
+      ap₂ (λ u v. shown_if (all_from (usable p.rights.writable m) u v) (Taken (taken v m))) (operands buffer (or_left (same buffer buffer) _ (eq-eqb buffer.0 buffer.0 refl))) (operands size (or_right (same buffer size) size))
+    where
+      or_right : (x : Bool) (r : VirtualRegister) → (x || same r r) ≡ true
+      or_right true r = refl
+      or_right false r = eq-eqb r.0 r.0 refl
+  same_shown names (Write output buffer size) m b ds operands =
+      ap₂ (λ u v. shown_if (all_from (usable p.rights.readable m) u v) (Written output (bytes_from m.memory u v))) (operands buffer (or_left (same buffer buffer) _ (eq-eqb buffer.0 buffer.0 refl))) (operands size (or_right (same buffer size) size))
+    where
+      or_right : (x : Bool) (r : VirtualRegister) → (x || same r r) ≡ true
+      or_right true r = refl
+      or_right false r = eq-eqb r.0 r.0 refl
+  same_shown names (Exit status) m b ds operands = refl
+
   -- ---- both do a step
 
   module _ (valid : is_valid low ≡ true) where
@@ -128,11 +162,12 @@ module _ (low better : Low) (p : Placement) (each : EachRoutine RenamesRoutine l
         let acted = acts low better p each names i (record m { top = behind is m.top }) (behind js b) ds running finds waits (subst (λ s. s.ending ≢ Bad) here fine) in
         let alike : Alike low better (step low p m) (step better p (with_parts b ds m)) = subst₂ (Alike low better) (sym here) (sym there) acted in
         let costs : cost better p m.ending (with_parts b ds m) ≡ cost low p m.ending m = cost_is better p (with_parts b ds m) (renamed_instruction names i) js running next ∙ same_cost names i m (with_parts b ds m) finds.operands ∙ sym (cost_is low p m i is running now) in
-        Moves (record { alike = alike; valid = step_runs low p valid m runs }) (omega arith)
+        let shown : shows p m.ending (with_parts b ds m) ≡ shows p m.ending m = shows_is p (with_parts b ds m) (renamed_instruction names i) js running next ∙ same_shown names i m b ds finds.operands ∙ sym (shows_is p m i is running now) in
+        Moves (record { alike = alike; valid = step_runs low p valid m runs }) (omega arith) shown
 
     -- one does a move between registers of one name
     skips : (live names : List ℕ) (registers : ℕ) (to from : VirtualRegister) (is : List Instruction) (m : State) (b : Activation) (ds : List Caller) → RunsValid low m → m.ending ≡ Running → m.top.now ≡ Move to from ∷ is → NamesStand low better live names registers m.top b → b.now ≡ renamed_code names is → same (renamed names to) (renamed names from) ≡ true → CallersStand low better m.callers ds → StepIs low better p (Related low better) m (with_parts b ds m)
-    unfolding act target_of reads
+    unfolding act target_of reads shown_by
     skips live names registers to from is m b ds runs running now stands left idle waits =
         let here = step_is low p m (Move to from) is running now in
         let finds = finds_named low better live names registers (Move to from) is m.top b stands now b.now left (subst (λ code. list_all (is_valid_instruction low (routine_of low m.top.routine)) code ≡ true) now runs.top) in
@@ -154,6 +189,7 @@ module _ (low better : Low) (p : Placement) (each : EachRoutine RenamesRoutine l
           valid = step_runs low p valid m runs;
         })
         (omega arith)
+        (shows_is p m (Move to from) is running now)
 
     -- ---- every step
 
@@ -208,6 +244,7 @@ module _ (low better : Low) (p : Placement) (each : EachRoutine RenamesRoutine l
         Moves
         (subst₂ (Related low better) (sym (step_stays low p m ends.status ends.ended)) (sym (step_stays better p n ends.status over)) (record { alike = BothEnded ends; valid = runs }))
         (omega arith)
+        (shows_ended p n ends.status over ∙ sym (shows_ended p m ends.status ends.ended))
 
     steps_by : (m n : State) → RunsValid low m → Alike low better m n → (step low p m).ending ≢ Bad → StepIs low better p (Related low better) m n
     steps_by m n runs (BothGo g) fine =

@@ -1,5 +1,6 @@
 -- Simplified code, one instruction after the other.
-use Rattle.std.proofs.Common.{◌≡◌, ℕ, if◌then◌else◌, Option, Some, None, List, [], ◌∷◌, ◌++◌, refl, ap, sym, ◌∙◌, append_assoc, append-nil, length, arith}
+use Rattle.std.proofs.Common.{◌≡◌, ℕ, if◌then◌else◌, Option, Some, None, List, [], ◌∷◌, ◌++◌, refl, ap, sym, ◌∙◌, append_assoc, append-nil}
+use Rattle.std.proofs.lemmas.List.{nil_from_length}
 use Rattle.op_low.specs.declared.instruction.Instruction.{Instruction}
 use Rattle.op_optimize.specs.Reading.{target_of}
 use Rattle.op_optimize.specs.Rewriting.{behind}
@@ -8,11 +9,6 @@ use Rattle.op_optimize.specs.declared.block.Way.{Way}
 use Rattle.op_optimize.specs.declared.fact.Fact.{Fact}
 use Rattle.op_optimize.specs.declared.fact.Known.{Known}
 use Rattle.op_optimize.specs.declared.fact.Value.{Value}
-
--- a list without length is empty
-pub no_items : {T : Type 0} (xs : List T) → length xs ≡ 0 → xs ≡ []
-no_items [] is = refl
-no_items (x ∷ xs) is = absurd (omega (arith, is))
 
 module _ (live : List ℕ) (way : Way) where
   -- what code becomes, by what was done of its first instruction

@@ -1,6 +1,7 @@
 -- A program whose routines stay or are simplified: how each block becomes what it is, and that no more is left.
 use Rattle.std.proofs.Common.{◌≡◌, ◌<◌, ◌≤◌, ℕ, zero, suc, Bool, true, false, ◌&&◌, if◌then◌else◌, inl, inr, Option, Some, None, List, [], ◌∷◌, slice_get, nat_le, refl, ap, sym, ◌∙◌, subst, arith}
 use Rattle.std.proofs.lemmas.Bool.{and_parts, cases_lt, leb-true, le-leb}
+use Rattle.std.proofs.lemmas.Option.{same_Some}
 use Rattle.std.specs.List.{list_all}
 use Rattle.op_low.specs.State.{code_or, routine_or, no_routine}
 use Rattle.op_low.specs.Valid.{is_sized, is_valid, is_valid_block, is_valid_instruction, is_valid_routine}
@@ -21,7 +22,6 @@ use Rattle.op_optimize.specs.declared.fact.Fact.{Fact}
 use Rattle.op_optimize.specs.declared.fact.Known.{Known}
 use Rattle.op_optimize.specs.declared.fact.Value.{Value}
 use Rattle.op_optimize.proofs.Costs.{weight_stays}
-use Rattle.op_optimize.proofs.Meanings.{some_is}
 use Rattle.op_optimize.proofs.Needing.{closed_at}
 use Rattle.op_optimize.proofs.PlainCode.{code_stays}
 use Rattle.op_optimize.proofs.SimplifiedCode.{by_first, rest_by}
@@ -124,7 +124,7 @@ module _ (live : List ℕ) (way : Way) where
 
   pub code_thins : (facts : List Fact) (known : List Known) (code better : List Instruction) → simplified live way facts known code ≡ Some better → Thins code better
   unfolding simplified
-  code_thins facts known [] better is = subst (Thins []) (some_is is) Nothing
+  code_thins facts known [] better is = subst (Thins []) (same_Some _ _ is) Nothing
   code_thins facts known (i ∷ is) better is_better =
       by (left_out live way facts known i is) refl (sym (by_first live way facts known i is) ∙ is_better)
       (λ v js. code_thins (and_fact facts (target_of i) v) known is js)
@@ -135,7 +135,7 @@ module _ (live : List ℕ) (way : Way) where
       kept (Some j) None e d all rest = absurd cc
       kept (Some j) (Some js) e d all rest =
           let many = weight_stays facts way.nothing (or_nothing way (last_written live way is (target_of i))) i j (stays_rewritten facts i j is e) in
-          subst (Thins (i ∷ is)) (some_is all) (Kept (omega arith) (rest js d))
+          subst (Thins (i ∷ is)) (same_Some _ _ all) (Kept (omega arith) (rest js d))
 
       by : (o : Option Value) → left_out live way facts known i is ≡ o → rest_by live way facts known i is o ≡ Some better → ((v : Option Value) (js : List Instruction) → simplified live way (and_fact facts (target_of i) v) known is ≡ Some js → Thins is js) → ((js : List Instruction) → simplified live way (facts_behind live way facts is (target_of i)) (contents_behind live way known i is) is ≡ Some js → Thins is js) → Thins (i ∷ is) better
       by (Some v) e all left rest = LeftOut (left (Some v) better all)

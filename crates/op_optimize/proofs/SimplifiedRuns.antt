@@ -1,12 +1,11 @@
 -- Simplified code does the same in no more steps.
 use Rattle.std.proofs.Common.{◌≡◌, ◌≢◌, ℕ, pos, suc, ◌+◌, ◌-◌, ◌<◌, Bool, true, false, ◌&&◌, ◌||◌, if◌then◌else◌, Option, Some, None, List, [], ◌∷◌, length, replicate, slice_get, nat_lt, refl, ap, ap₂, sym, ◌∙◌, subst, subst₂, arith}
 use Rattle.std.proofs.lemmas.Bool.{and_parts, eqb-true, eq-eqb, ltb-true, or_left}
+use Rattle.std.proofs.lemmas.Option.{same_Some}
 use Rattle.std.specs.List.{list_all}
 use Rattle.std.specs.Ordering.{int_eq}
-use Rattle.op_rv.specs.Operation.{alu_value, imm_value, word_from}
-use Rattle.op_rv.specs.State.{with_bytes}
 use Rattle.op_low.proofs.ValidRuns.{start_runs, step_runs}
-use Rattle.op_low.specs.Machine.{NeverBad, act, cost, entered, start, step}
+use Rattle.op_low.specs.Machine.{NeverBad, act, cost, entered, start, step, shown_by, shows}
 use Rattle.op_low.specs.Runs.{RunsValid}
 use Rattle.op_low.specs.State.{Activation, Bad, Caller, Ended, Placement, Running, State, keep, routine_of, routine_or, value}
 use Rattle.op_low.specs.Valid.{is_valid, is_valid_instruction, takes}
@@ -16,6 +15,17 @@ use Rattle.op_low.specs.declared.ids.VirtualRegister.{VirtualRegister}
 use Rattle.op_low.specs.declared.instruction.Call.{Call as Operands}
 use Rattle.op_low.specs.declared.instruction.Instruction.{Instruction}
 use Rattle.op_low.specs.declared.instruction.Instruction.TheVariants.{Const, Address, Local, Move, Alu, AluImm, Shift, Load, Store, Call, CallAt, Branch, Jump, Return, Raise, Read, Write, Exit}
+use Rattle.op_optimize.proofs.Actions.{Alike, BothEnded, BothGo, CallersStand, GoesAlike, NoCallers, with_parts}
+use Rattle.op_optimize.proofs.Costs.{cost_stays, shows_stays}
+use Rattle.op_optimize.proofs.Emitting.{source_means}
+use Rattle.op_optimize.proofs.Facts.{Knows, meaning}
+use Rattle.op_optimize.proofs.Meanings.{alu_means, is_there, one_means}
+use Rattle.op_optimize.proofs.Needing.{needs_read, reads_its_own}
+use Rattle.op_optimize.proofs.Simplifications.{InBlock, Plans, values_left_out}
+use Rattle.op_optimize.proofs.SimplifiedCode.{skips_one, stays_one}
+use Rattle.op_optimize.proofs.Staying.{Stand, Stayed, does, enters}
+use Rattle.op_optimize.proofs.Stepping.{shortens}
+use Rattle.op_optimize.proofs.Steps.{behind, cost_ended, cost_is, step_is, step_is_bad, step_stays, shows_ended, shows_is}
 use Rattle.op_optimize.specs.Contents.{content_of, has_already}
 use Rattle.op_optimize.specs.Facts.{source, value_in, with_fact}
 use Rattle.op_optimize.specs.Liveness.{needs}
@@ -32,32 +42,24 @@ use Rattle.op_optimize.specs.declared.fact.Fact.{Fact}
 use Rattle.op_optimize.specs.declared.fact.Known.{Known}
 use Rattle.op_optimize.specs.declared.fact.Value.{Value}
 use Rattle.op_optimize.specs.declared.fact.Value.TheVariants.{Copy}
-use Rattle.op_optimize.proofs.Actions.{Alike, BothEnded, BothGo, CallersStand, GoesAlike, NoCallers, with_parts}
-use Rattle.op_optimize.proofs.Costs.{cost_stays}
-use Rattle.op_optimize.proofs.Emitting.{source_means}
-use Rattle.op_optimize.proofs.Facts.{Knows, meaning}
-use Rattle.op_optimize.proofs.Meanings.{alu_means, is_there, one_means, some_is}
-use Rattle.op_optimize.proofs.Needing.{needs_read, reads_its_own}
-use Rattle.op_optimize.proofs.SimplifiedCode.{skips_one, stays_one}
-use Rattle.op_optimize.proofs.Simplifications.{InBlock, Plans, values_left_out}
-use Rattle.op_optimize.proofs.Staying.{Stand, Stayed, does, enters}
-use Rattle.op_optimize.proofs.Stepping.{shortens}
-use Rattle.op_optimize.proofs.Steps.{behind, cost_ended, cost_is, step_is, step_is_bad, step_stays}
+use Rattle.op_rv.specs.Operation.{alu_value, imm_value, word_from}
+use Rattle.op_rv.specs.State.{with_bytes}
 
--- ---- an instruction that is left out puts the value of its fact in its register
+-- ---- an instruction that is left out puts the value of its fact in its register, and shows nothing
 
 record PutsValue (low : Low) (p : Placement) (i : Instruction) (m : State) (to : VirtualRegister) (s : ℕ → ℕ) (v : Value) : Type 0 where
   put : ℕ
   does : act low p i m ≡ keep to put m
   means : put ≡ meaning s v
+  silent : (n : State) → shown_by p i n ≡ []
 
 module _ (low : Low) (p : Placement) (m : State) (s : ℕ → ℕ) (facts : List Fact) (known : List Known) (nothing to : VirtualRegister) (none : s nothing.0 ≡ 0) (knows : Knows p.address s known) where
   has_content : (i : Instruction) (v : Value) → target_of i ≡ Some to → has_already known to i ≡ true → Copy to ≡ v → PutsValue low p i m to s v
-  unfolding has_already content_of target_of act
+  unfolding has_already content_of target_of act shown_by
   has_content (Const t n) v target has is =
-      record { put = n; does = ap (λ r. keep r n m) (some_is target); means = sym (is_there p.address s known to (NumberIn n) knows has) ∙ ap (meaning s) is }
+      record { put = n; does = ap (λ r. keep r n m) (same_Some _ _ target); means = sym (is_there p.address s known to (NumberIn n) knows has) ∙ ap (meaning s) is; silent = λ n. refl }
   has_content (Address t symbol) v target has is =
-      record { put = p.address symbol; does = ap (λ r. keep r (p.address symbol) m) (some_is target); means = sym (is_there p.address s known to (Place symbol) knows has) ∙ ap (meaning s) is }
+      record { put = p.address symbol; does = ap (λ r. keep r (p.address symbol) m) (same_Some _ _ target); means = sym (is_there p.address s known to (Place symbol) knows has) ∙ ap (meaning s) is; silent = λ n. refl }
   has_content (Local t offset) v target has is = absurd cc
   has_content (Move t from) v target has is = absurd cc
   has_content (Alu op t left right) v target has is = absurd cc
@@ -81,10 +83,10 @@ module _ (low : Low) (p : Placement) (m : State) (s : ℕ → ℕ) (facts : List
     sourced r a read is = holds r read ∙ sym (source_means s nothing none (value_in facts r) a is)
 
   has_value : (i : Instruction) (v : Value) → ((r : VirtualRegister) → reads i r ≡ true → value m r ≡ meaning s (value_in facts r)) → target_of i ≡ Some to → value_of facts nothing i ≡ Some v → PutsValue low p i m to s v
-  unfolding value_of target_of act reads alu_value_of
-  has_value (Const t n) v holds target is = record { put = n; does = ap (λ r. keep r n m) (some_is target); means = ap (meaning s) (some_is is) }
+  unfolding value_of target_of act reads alu_value_of shown_by
+  has_value (Const t n) v holds target is = record { put = n; does = ap (λ r. keep r n m) (same_Some _ _ target); means = ap (meaning s) (same_Some _ _ is); silent = λ n. refl }
   has_value (Move t from) v holds target is =
-      record { put = value m from; does = ap (λ r. keep r (value m from) m) (some_is target); means = holds from (eq-eqb from.0 from.0 refl) ∙ ap (meaning s) (some_is is) }
+      record { put = value m from; does = ap (λ r. keep r (value m from) m) (same_Some _ _ target); means = holds from (eq-eqb from.0 from.0 refl) ∙ ap (meaning s) (same_Some _ _ is); silent = λ n. refl }
   has_value (Alu op t left right) v holds target is = by (source facts nothing left) (source facts nothing right) refl refl is
     where
       by : (a b : Option VirtualRegister) → source facts nothing left ≡ a → source facts nothing right ≡ b → alu_from op a b ≡ Some v → PutsValue low p (Alu op t left right) m to s v
@@ -95,8 +97,9 @@ module _ (low : Low) (p : Placement) (m : State) (s : ℕ → ℕ) (facts : List
           let second = sourced (Alu op t left right) holds right b (or_right_itself (same left right) right) d in
           record {
             put = alu_value op (value m left) (value m right);
-            does = ap (λ r. keep r (alu_value op (value m left) (value m right)) m) (some_is target);
+            does = ap (λ r. keep r (alu_value op (value m left) (value m right)) m) (same_Some _ _ target);
             means = ap₂ (alu_value op) first second ∙ alu_means s op a b v is;
+            silent = λ n. refl;
           }
         where
           or_right_itself : (x : Bool) (r : VirtualRegister) → (x || same r r) ≡ true
@@ -109,8 +112,9 @@ module _ (low : Low) (p : Placement) (m : State) (s : ℕ → ℕ) (facts : List
       by true e is =
           record {
             put = imm_value op (value m left) (word_from imm);
-            does = ap (λ r. keep r (imm_value op (value m left) (word_from imm)) m) (some_is target);
+            does = ap (λ r. keep r (imm_value op (value m left) (word_from imm)) m) (same_Some _ _ target);
             means = ap (λ x. imm_value op x (word_from imm)) (holds left (eq-eqb left.0 left.0 refl)) ∙ one_means s nothing none op (value_in facts left) v imm e is;
+            silent = λ n. refl;
           }
   has_value (Address t symbol) v holds target is = absurd cc
   has_value (Local t offset) v holds target is = absurd cc
@@ -132,7 +136,7 @@ module _ (low : Low) (p : Placement) (m : State) (s : ℕ → ℕ) (facts : List
   puts_value i v holds target is = by (has_already known to i) refl is
     where
       by : (t : Bool) → has_already known to i ≡ t → (if t then Some (Copy to) else value_of facts nothing i) ≡ Some v → PutsValue low p i m to s v
-      by true e is = has_content i v target e (some_is is)
+      by true e is = has_content i v target e (same_Some _ _ is)
       by false e is = has_value i v holds target is
 
 -- what is left out has a register and a value
@@ -230,6 +234,7 @@ module _ (low better : Low) (p : Placement) (plans : Plans low better) (many : l
           valid = step_runs low p valid m runs;
         })
         (omega arith)
+        (shows_is p m i is running now ∙ puts.silent m)
 
     moves : left_out live stands.way stands.facts stands.known i is ≡ None → StepIs low better p (Related low better p plans) m (with_parts b ds m)
     unfolding stays_as source reads
@@ -241,7 +246,7 @@ module _ (low better : Low) (p : Placement) (plans : Plans low better) (many : l
         both_true false y j o is = absurd cc
 
         same_rest : (j : Instruction) (js : List Instruction) → Some (j ∷ js) ≡ Some b.now → b.now ≡ j ∷ js
-        same_rest j js is = sym (some_is is)
+        same_rest j js is = sym (same_Some _ _ is)
 
         by : (o : Option Instruction) (q : Option (List Instruction)) → stays_as live stands.way stands.facts i is ≡ o → simplified live stands.way (facts_behind live stands.way stands.facts is (target_of i)) (contents_behind live stands.way stands.known i is) is ≡ q → in_front o q ≡ Some b.now → StepIs low better p (Related low better p plans) m (with_parts b ds m)
         by None q e d whole = absurd cc
@@ -256,15 +261,19 @@ module _ (low better : Low) (p : Placement) (plans : Plans low better) (many : l
             let same_cost = cost_stays low better p (λ r. (plans r).locals) stands.facts stands.way.nothing (or_nothing stands.way (last_written live stands.way is (target_of i))) i j m (with_parts b ds m) parts.2
             (λ address at call is_call is_at. same_address address at call is_call is_at) in
             let costs : cost better p m.ending (with_parts b ds m) ≡ cost low p m.ending m = cost_is better p (with_parts b ds m) j js running (same_rest j js whole) ∙ same_cost ∙ sym (cost_is low p m i is running now) in
-            Moves (record { alike = alike; valid = step_runs low p valid m runs }) (omega arith)
+            let shown : shows p m.ending (with_parts b ds m) ≡ shows p m.ending m = shows_is p (with_parts b ds m) j js running (same_rest j js whole)
+            ∙ shows_stays p stands.facts stands.way.nothing (or_nothing stands.way (last_written live stands.way is (target_of i))) i j m b ds parts.2 same_value
+            ∙ sym (shows_is p m i is running now) in
+            Moves (record { alike = alike; valid = step_runs low p valid m runs }) (omega arith) shown
           where
             stays_is : (if may_go live stands.facts i && may_write live stands.way stands.facts is (target_of i) then rewritten stands.facts stands.way.nothing (or_nothing stands.way (last_written live stands.way is (target_of i))) i else None) ≡ stays_as live stands.way stands.facts i is
             stays_is = refl
 
+            same_value : (r at : VirtualRegister) → reads i r ≡ true → source stands.facts stands.way.nothing r ≡ Some at → value (with_parts b ds m) at ≡ value m r
+            same_value r at read is_at = source_means b.registers stands.way.nothing nothing_there (value_in stands.facts r) at is_at ∙ sym (holds r read)
+
             same_address : (address at : VirtualRegister) (call : Operands) → i ≡ CallAt address call → source stands.facts stands.way.nothing address ≡ Some at → value (with_parts b ds m) at ≡ value m address
-            same_address address at call is_call is_at =
-                source_means b.registers stands.way.nothing nothing_there (value_in stands.facts address) at is_at
-                ∙ sym (holds address (ap (λ k. reads k address) is_call ∙ or_left (same address address) _ (eq-eqb address.0 address.0 refl)))
+            same_address address at call is_call is_at = same_value address at (ap (λ k. reads k address) is_call ∙ or_left (same address address) _ (eq-eqb address.0 address.0 refl)) is_at
 
     goes_on : StepIs low better p (Related low better p plans) m (with_parts b ds m)
     goes_on = by (left_out live stands.way stands.facts stands.known i is) refl
@@ -288,7 +297,7 @@ module _ (low better : Low) (p : Placement) (plans : Plans low better) (many : l
           let there_too = step_stays better p n e.status ended in
           let one = cost_ended low p m e.status e.ended in
           let one_too = cost_ended better p n e.status ended in
-          Moves (subst₂ (Related low better p plans) (sym there) (sym there_too) related) (omega arith)
+          Moves (subst₂ (Related low better p plans) (sym there) (sym there_too) related) (omega arith) (shows_ended p n e.status ended ∙ sym (shows_ended p m e.status e.ended))
 
   pub leads : Leads low better p (Related low better p plans)
   leads = record { alike = looks; steps = steps }

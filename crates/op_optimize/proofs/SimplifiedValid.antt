@@ -3,6 +3,7 @@ use Rattle.std.proofs.Common.{◌≡◌, ℕ, pos, zero, suc, ◌-◌, ◌-ℤ�
 use Rattle.std.proofs.lemmas.Bool.{and_from, and_parts, leb-true, le-leb, lt-ltb, ltb-true}
 use Rattle.std.proofs.lemmas.Bool.Decides.{nat_tests}
 use Rattle.std.proofs.lemmas.Int.{ints}
+use Rattle.std.proofs.lemmas.Option.{same_Some}
 use Rattle.std.specs.List.{list_all}
 use Rattle.std.specs.Ordering.{int_eq}
 use Rattle.op_rv.specs.Encoding.{is_imm}
@@ -40,7 +41,6 @@ use Rattle.op_optimize.specs.declared.fact.Value.TheVariants.{Copy, Number, Diff
 use Rattle.op_optimize.specs.declared.value.NumberForm.{NumberForm}
 use Rattle.op_optimize.specs.declared.value.NumberForm.TheVariants.{Imm}
 use Rattle.op_optimize.proofs.Costs.{sources_many}
-use Rattle.op_optimize.proofs.Meanings.{some_is}
 use Rattle.op_optimize.proofs.PlainCode.{targets_fit}
 use Rattle.op_optimize.proofs.SimplifiedCode.{by_first, rest_by}
 use Rattle.op_optimize.proofs.SimplifiedPlans.{stays_rewritten}
@@ -288,7 +288,7 @@ module _ (low better : Low) (routine thinner : Routine) (takes_stay : (r argumen
         let parts = and_parts _ _ valid in
         let args = and_parts _ _ parts.0 in
         let there : list_all (has thinner) l ≡ true = ap all_there_if (sym e) ∙ sources_there call.arguments args.0 in
-        subst (λ (o : Operands). (operands_fit thinner o ≡ true) × (length o.arguments ≡ length call.arguments)) (some_is is)
+        subst (λ (o : Operands). (operands_fit thinner o ≡ true) × (length o.arguments ≡ length call.arguments)) (same_Some _ _ is)
         (and_from _ _ (and_from _ _ there to_there) (landing_there call.landing parts.1), sources_many facts nothing to call.arguments l e)
 
     rewritten_valid : (i j : Instruction) (to : VirtualRegister) → has thinner to ≡ true → is_valid_instruction low routine i ≡ true → rewritten facts nothing to i ≡ Some j → is_valid_instruction better thinner j ≡ true
@@ -330,7 +330,7 @@ module _ (low better : Low) (routine thinner : Routine) (takes_stay : (r argumen
             call_found None e is = absurd cc
             call_found (Some new) e is =
                 let fine = operands_valid call to to_there (and_parts _ _ valid).1 (sources facts nothing call.arguments) refl new e in
-                subst (λ k. is_valid_instruction better thinner k ≡ true) (some_is is)
+                subst (λ k. is_valid_instruction better thinner k ≡ true) (same_Some _ _ is)
                 (and_from _ _ (ap (takes (slice_get better.routines id.0)) fine.1 ∙ takes_stay id.0 (length call.arguments) ∙ (and_parts _ _ valid).0) fine.0)
         by (CallAt address call) valid is = call_found (source facts nothing address) (operands_of facts nothing call to) (from address (and_parts _ _ valid).0) refl is
           where
@@ -339,7 +339,7 @@ module _ (low better : Low) (routine thinner : Routine) (takes_stay : (r argumen
             call_found (Some at) None there e is = absurd cc
             call_found (Some at) (Some new) there e is =
                 let fine = operands_valid call to to_there (and_parts _ _ valid).1 (sources facts nothing call.arguments) refl new e in
-                subst (λ k. is_valid_instruction better thinner k ≡ true) (some_is is) (and_from _ _ there fine.0)
+                subst (λ k. is_valid_instruction better thinner k ≡ true) (same_Some _ _ is) (and_from _ _ there fine.0)
         by (Branch op left right block) valid is =
             let l = (and_parts _ _ (and_parts _ _ valid).0).0 in
             let r = (and_parts _ _ (and_parts _ _ valid).0).1 in
@@ -486,7 +486,7 @@ module _ (low better : Low) (routine thinner : Routine) (takes_stay : (r argumen
 
     code_valid : (facts : List Fact) (known : List Known) (code js : List Instruction) → facts_fit better thinner facts ≡ true → list_all (is_valid_instruction low routine) code ≡ true → simplified live way facts known code ≡ Some js → list_all (is_valid_instruction better thinner) js ≡ true
     unfolding simplified
-    code_valid facts known [] js fit valid is_js = subst (λ (l : List Instruction). list_all (is_valid_instruction better thinner) l ≡ true) (some_is is_js) refl
+    code_valid facts known [] js fit valid is_js = subst (λ (l : List Instruction). list_all (is_valid_instruction better thinner) l ≡ true) (same_Some _ _ is_js) refl
     code_valid facts known (i ∷ is) js fit valid is_js =
         by (left_out live way facts known i is) refl (sym (by_first live way facts known i is) ∙ is_js)
         (λ v e l. code_valid (and_fact facts (target_of i) (Some v)) known is l (left_fits facts known i is v fit (and_parts _ _ valid).0 e) (and_parts _ _ valid).1)
@@ -496,7 +496,7 @@ module _ (low better : Low) (routine thinner : Routine) (takes_stay : (r argumen
         kept None q e d all rest = absurd cc
         kept (Some j) None e d all rest = absurd cc
         kept (Some j) (Some l) e d all rest =
-            subst (λ (l : List Instruction). list_all (is_valid_instruction better thinner) l ≡ true) (some_is all)
+            subst (λ (l : List Instruction). list_all (is_valid_instruction better thinner) l ≡ true) (same_Some _ _ all)
             (and_from _ _ (rewritten_valid way.nothing nothing_there facts fit i j (or_nothing way (last_written live way is (target_of i))) (last_there i is (and_parts _ _ valid).0 (and_parts _ _ valid).1) (and_parts _ _ valid).0 (stays_rewritten live way facts i j is e)) (rest l d))
 
         by : (o : Option Value) → left_out live way facts known i is ≡ o → rest_by live way facts known i is o ≡ Some js → ((v : Value) → left_out live way facts known i is ≡ Some v → (l : List Instruction) → simplified live way (and_fact facts (target_of i) (Some v)) known is ≡ Some l → list_all (is_valid_instruction better thinner) l ≡ true) → ((l : List Instruction) → simplified live way (facts_behind live way facts is (target_of i)) (contents_behind live way known i is) is ≡ Some l → list_all (is_valid_instruction better thinner) l ≡ true) → list_all (is_valid_instruction better thinner) js ≡ true
@@ -597,12 +597,12 @@ module _ (live : List ℕ) (way : Way) where
       kept : (o : Option Instruction) (q : Option (List Instruction)) → stays_as live way facts i is ≡ o → simplified live way (facts_behind live way facts is (target_of i)) (contents_behind live way known i is) is ≡ q → in_front o q ≡ Some js → Leaves (i ∷ is) → ((l : List Instruction) → Leaves is → simplified live way (facts_behind live way facts is (target_of i)) (contents_behind live way known i is) is ≡ Some l → Leaves l) → Leaves js
       kept None q e d all last rest = absurd cc
       kept (Some j) None e d all last rest = absurd cc
-      kept (Some j) (Some l) e d all last rest = subst Leaves (some_is all) (ends (leaves_so i is last))
+      kept (Some j) (Some l) e d all last rest = subst Leaves (same_Some _ _ all) (ends (leaves_so i is last))
         where
           ends : EndsSo i is → Leaves (j ∷ l)
           ends (Goes further) = RestLeaves (rest l further d)
           ends (Ends none left) =
-              let no_more : [] ≡ l = some_is (sym (ap (λ code. simplified live way (facts_behind live way facts code (target_of i)) (contents_behind live way known i code) code) none) ∙ d) in
+              let no_more : [] ≡ l = same_Some _ _ (sym (ap (λ code. simplified live way (facts_behind live way facts code (target_of i)) (contents_behind live way known i code) code) none) ∙ d) in
               subst (λ (k : List Instruction). Leaves (j ∷ k)) no_more (LastLeaves (leaving_stays facts way.nothing (or_nothing way (last_written live way is (target_of i))) i j left (stays_rewritten live way facts i j is e)))
 
       by : (o : Option Value) → left_out live way facts known i is ≡ o → rest_by live way facts known i is o ≡ Some js → Leaves (i ∷ is) → ((v : Option Value) (l : List Instruction) → Leaves is → simplified live way (and_fact facts (target_of i) v) known is ≡ Some l → Leaves l) → ((l : List Instruction) → Leaves is → simplified live way (facts_behind live way facts is (target_of i)) (contents_behind live way known i is) is ≡ Some l → Leaves l) → Leaves js

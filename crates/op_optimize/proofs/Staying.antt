@@ -2,6 +2,7 @@
 use Rattle.std.proofs.Common.{◌≡◌, ◌≢◌, ℕ, ◌+◌, ◌-◌, ◌<◌, Bool, true, false, ◌&&◌, not, if◌then◌else◌, Option, Some, None, List, [], ◌∷◌, length, refl, ap, ap₂, sym, ◌∙◌, subst, subst₂, arith}
 use Rattle.std.proofs.lemmas.Bool.{and_parts, eq-eqb, or_left, or_right, ltb-true}
 use Rattle.std.proofs.lemmas.List.{get_or_past}
+use Rattle.std.proofs.lemmas.Option.{same_Some}
 use Rattle.op_rv.specs.Operation.{branch_taken, imm_value, shift_value, word_from}
 use Rattle.op_rv.specs.Step.{offset_from}
 use Rattle.op_rv.specs.declared.symbol.BlockId.{BlockId}
@@ -22,7 +23,6 @@ use Rattle.op_optimize.specs.Simplifying.{contents_behind, destination, facts_be
 use Rattle.op_optimize.proofs.Actions.{Alike, CallersStand, Finds, calls, calls_found, choose, ends, jumps_on, keeps, loads, raises_to, reads_in, returns_to, stays, stores, with_parts, writes_out}
 use Rattle.op_optimize.proofs.Emitting.{branch_does, moved_does, operation_does, source_means, sources_pass}
 use Rattle.op_optimize.proofs.Facts.{at_another, content_value, knows_behind, meaning}
-use Rattle.op_optimize.proofs.Meanings.{some_is}
 use Rattle.op_optimize.proofs.Needing.{needs_beyond, needs_read, raise_needs_nothing, reads_its_own}
 use Rattle.op_optimize.proofs.Simplifications.{InBlock, Plans, Puts, behind, goes_clear, values_stay, values_written}
 
@@ -108,7 +108,7 @@ module _ (low better : Low) (p : Placement) (plans : Plans low better) where
       unfolding may_write contents_behind
       stays_written None target to v is_to puts = absurd cc
       stays_written (Some t) target to v is_to puts =
-          let t_is : t ≡ to = some_is is_to in
+          let t_is : t ≡ to = same_Some _ _ is_to in
           let written : may_write (plans a.routine).live stands.way stands.facts is (Some t) ≡ true = ap (may_write (plans a.routine).live stands.way stands.facts is) (sym target) ∙ may in
           subst (λ x. Stand (with_value x v (behind is a)) (with_value (destination (plans a.routine).live stands.way is t) v (behind js b))) t_is
           (record {
@@ -195,12 +195,12 @@ module _ (low better : Low) (p : Placement) (plans : Plans low better) where
 
     map_one_is : (f : VirtualRegister → Instruction) (o : Option VirtualRegister) (j : Instruction) (Goal : Instruction → Type 0) → map_one f o ≡ Some j → ((a : VirtualRegister) → o ≡ Some a → Goal (f a)) → Goal j
     map_one_is f None j Goal is goal = absurd cc
-    map_one_is f (Some a) j Goal is goal = subst Goal (some_is is) (goal a refl)
+    map_one_is f (Some a) j Goal is goal = subst Goal (same_Some _ _ is) (goal a refl)
 
     map_two_is : (f : VirtualRegister → VirtualRegister → Instruction) (o q : Option VirtualRegister) (j : Instruction) (Goal : Instruction → Type 0) → map_two f o q ≡ Some j → ((a b : VirtualRegister) → o ≡ Some a → q ≡ Some b → Goal (f a b)) → Goal j
     map_two_is f None q j Goal is goal = absurd cc
     map_two_is f (Some a) None j Goal is goal = absurd cc
-    map_two_is f (Some a) (Some b) j Goal is goal = subst Goal (some_is is) (goal a b refl refl)
+    map_two_is f (Some a) (Some b) j Goal is goal = subst Goal (same_Some _ _ is) (goal a b refl refl)
 
     either_first : (a b : VirtualRegister) → either a b a ≡ true
     either_first a b = or_left (same a a) (same b a) (eq-eqb a.0 a.0 refl)
@@ -258,11 +258,11 @@ module _ (low better : Low) (p : Placement) (plans : Plans low better) where
 
       pub does : (i : Instruction) (j : Instruction) → Stayed i → rewritten stands.facts stands.way.nothing (lasts i) i ≡ Some j → (act low p i here).ending ≢ Bad → Alike Stand low better (act low p i here) (act better p j there)
       unfolding act rewritten target_of reads leaves content_of is_argument operands_of
-      does (Const to n) j x is fine = puts_it (Const to n) to n j x refl (λ c e. ap (content_value p.address) (some_is e)) refl (ap (λ k. act better p k there) (sym (some_is is)))
-      does (Address to symbol) j x is fine = puts_it (Address to symbol) to (p.address symbol) j x refl (λ c e. ap (content_value p.address) (some_is e)) refl (ap (λ k. act better p k there) (sym (some_is is)))
+      does (Const to n) j x is fine = puts_it (Const to n) to n j x refl (λ c e. ap (content_value p.address) (same_Some _ _ e)) refl (ap (λ k. act better p k there) (sym (same_Some _ _ is)))
+      does (Address to symbol) j x is fine = puts_it (Address to symbol) to (p.address symbol) j x refl (λ c e. ap (content_value p.address) (same_Some _ _ e)) refl (ap (λ k. act better p k there) (sym (same_Some _ _ is)))
       does (Local to offset) j x is fine =
           puts_it (Local to offset) to _ j x refl (λ c e. absurd cc) refl
-          (ap (λ k. act better p k there) (sym (some_is is))
+          (ap (λ k. act better p k there) (sym (same_Some _ _ is))
           ∙ ap (λ k. keep (lasts (Local to offset)) (m.limit - k + offset) there) (ap (λ r. (routine_of better r).locals) stands.routine ∙ same_locals m.top.routine))
       does (Move to from) j x is fine =
           puts_it (Move to from) to _ j x refl (λ c e. absurd cc) refl
@@ -294,7 +294,7 @@ module _ (low better : Low) (p : Placement) (plans : Plans low better) where
               passes None d is_new = absurd cc
               passes (Some arguments) d is_new =
                   let same_both = sources_pass m.top.registers b.registers stands.facts stands.way.nothing nothing_there call.arguments arguments (λ r there_is. holds (Call id call) x r there_is) d in
-                  let is_j : Call id (record { arguments = arguments; to = lasts (Call id call); landing = call.landing }) ≡ j = ap (Call id) (some_is is_new) ∙ some_is is in
+                  let is_j : Call id (record { arguments = arguments; to = lasts (Call id call); landing = call.landing }) ≡ j = ap (Call id) (same_Some _ _ is_new) ∙ same_Some _ _ is in
                   subst (λ k. Alike Stand low better (act low p (Call id call) here) (act better p k there)) is_j
                   (calls low better p Stand enters same_locals same_parameters many (Call id call) (lasts (Call id call)) (Puts p.address (Call id call)) here (behind js b) ds running (found (Call id call) x) waits id.0 call arguments same_both.0 same_both.1 refl refl (λ v c e. absurd cc) fine)
       does (CallAt address call) j x is fine = by_address (source stands.facts stands.way.nothing address) refl is
@@ -311,7 +311,7 @@ module _ (low better : Low) (p : Placement) (plans : Plans low better) where
                   passes None g is_new = absurd cc
                   passes (Some arguments) g is_new =
                       let same_both = sources_pass m.top.registers b.registers stands.facts stands.way.nothing nothing_there call.arguments arguments (λ r there_is. holds (CallAt address call) x r (or_right (same address r) _ there_is)) g in
-                      let is_j : CallAt at (record { arguments = arguments; to = lasts (CallAt address call); landing = call.landing }) ≡ j = ap (CallAt at) (some_is is_new) ∙ some_is is in
+                      let is_j : CallAt at (record { arguments = arguments; to = lasts (CallAt address call); landing = call.landing }) ≡ j = ap (CallAt at) (same_Some _ _ is_new) ∙ same_Some _ _ is in
                       subst (λ k. Alike Stand low better (act low p (CallAt address call) here) (act better p k there)) is_j
                       (calls_found low better p Stand enters same_locals same_parameters many (CallAt address call) (lasts (CallAt address call)) (Puts p.address (CallAt address call)) here (behind js b) ds running (found (CallAt address call) x) waits _ _ call arguments (ap p.routine_at (reads_from (CallAt address call) x address at (or_left (same address address) _ (itself address)) e)) same_both.0 same_both.1 refl refl (λ v c e. absurd cc) fine)
       does (Branch op left right block) j x is fine =
@@ -322,13 +322,13 @@ module _ (low better : Low) (p : Placement) (plans : Plans low better) where
           (jumps_on low better p Stand enters same_locals same_parameters many (Branch op left right block) (lasts (Branch op left right block)) (Puts p.address (Branch op left right block)) here (behind js b) ds running (found (Branch op left right block) x) waits block block (f.lands (Some block) refl))
           (stays low better p Stand enters same_locals same_parameters many (Branch op left right block) (lasts (Branch op left right block)) (Puts p.address (Branch op left right block)) here (behind js b) ds running (found (Branch op left right block) x) waits m.memory m.output m.errors refl refl))
       does (Jump block) j x is fine =
-          subst (λ k. Alike Stand low better (act low p (Jump block) here) (act better p k there)) (some_is is)
+          subst (λ k. Alike Stand low better (act low p (Jump block) here) (act better p k there)) (same_Some _ _ is)
           (jumps_on low better p Stand enters same_locals same_parameters many (Jump block) (lasts (Jump block)) (Puts p.address (Jump block)) here (behind js b) ds running (found (Jump block) x) waits block block ((found (Jump block) x).lands (Some block) refl))
       does (Return v) j x is fine =
           map_one_is Return (source stands.facts stands.way.nothing v) j (λ k. Alike Stand low better (act low p (Return v) here) (act better p k there)) is
           (λ a is_a. returns_to low better p Stand enters same_locals same_parameters many (Return v) (lasts (Return v)) (Puts p.address (Return v)) here (behind js b) ds running (found (Return v) x) waits _ _ m.callers ds (reads_from (Return v) x v a (itself v) is_a) waits fine)
       does Raise j x is fine =
-          subst (λ k. Alike Stand low better (act low p Raise here) (act better p k there)) (some_is is)
+          subst (λ k. Alike Stand low better (act low p Raise here) (act better p k there)) (same_Some _ _ is)
           (raises_to low better p Stand enters same_locals same_parameters many Raise (lasts Raise) (Puts p.address Raise) here (behind js b) ds running (found Raise x) waits m.callers ds waits fine)
       does (Read to buffer size) j x is fine =
           map_two_is (Read (lasts (Read to buffer size))) (source stands.facts stands.way.nothing buffer) (source stands.facts stands.way.nothing size) j (λ k. Alike Stand low better (act low p (Read to buffer size) here) (act better p k there)) is

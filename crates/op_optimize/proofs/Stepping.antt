@@ -1,8 +1,8 @@
 -- From single steps to whole runs: each step of the first run is a step of the second, or none, and the second goes as far as one likes.
-use Rattle.std.proofs.Common.{◌≡◌, ◌≢◌, ℕ, zero, suc, ◌+◌, ◌-◌, ◌*◌, ◌≤◌, ◌<◌, length, refl, ap, sym, ◌∙◌, subst, subst₂, arith}
-use Rattle.op_simulation.specs.System.{run}
+use Rattle.std.proofs.Common.{◌≡◌, ◌≢◌, ℕ, zero, suc, ◌+◌, ◌-◌, ◌*◌, ◌≤◌, ◌<◌, List, length, append-nil, refl, ap, sym, ◌∙◌, subst, subst₂, arith}
+use Rattle.op_simulation.specs.System.{run, trace}
 use Rattle.op_simulation.proofs.Runs.{run_last, run_add}
-use Rattle.op_low.specs.Machine.{NeverBad, cost, low_machine, step}
+use Rattle.op_low.specs.Machine.{Event, NeverBad, cost, low_machine, shows, step}
 use Rattle.op_low.specs.State.{Bad, Placement, State}
 use Rattle.op_low.specs.declared.code.Low.{Low}
 use Rattle.op_optimize.specs.Shortening.{LooksLike, Passed, Shortens}
@@ -14,6 +14,7 @@ record Next (low better : Low) (p : Placement) (related : State → State → Ty
   pub few : move ≤ 1
   pub there : related (step low p m) (run (low_machine better p) move n)
   pub costs : move * cost better p n.ending n ≤ cost low p m.ending m
+  pub shown : trace (low_machine better p) move n ≡ shows p m.ending m
   -- a step that is none leaves less of the block
   pub falls : move ≡ 0 → length (step low p m).top.now < length m.top.now
 
@@ -29,13 +30,13 @@ record Farther (point : ℕ → ℕ) (k : ℕ) : Type 0 where
 
 module _ (low better : Low) (p : Placement) (related : State → State → Type 0) where
   next_of : (m n : State) → StepIs low better p related m n → Next low better p related m n
-  unfolding run
-  next_of m n (Skips there less) =
+  unfolding run trace
+  next_of m n (Skips there less silent) =
       let none : 0 * cost better p n.ending n ≡ 0 = omega arith in
-      record { move = 0; few = omega arith; there = there; costs = omega arith; falls = λ is. less }
-  next_of m n (Moves there costs) =
+      record { move = 0; few = omega arith; there = there; costs = omega arith; shown = sym silent; falls = λ is. less }
+  next_of m n (Moves there costs shown) =
       let one : 1 * cost better p n.ending n ≡ cost better p n.ending n = omega arith in
-      record { move = 1; few = omega arith; there = there; costs = omega arith; falls = λ is. absurd (omega arith) }
+      record { move = 1; few = omega arith; there = there; costs = omega arith; shown = append-nil (shows p n.ending n) ∙ shown; falls = λ is. absurd (omega arith) }
 
   module _ (leads : Leads low better p related) (m n : State) (begins : related m n) (never : NeverBad low p m) where
     next_at : (k : ℕ) (here : Reached low better p related m n k) → Next low better p related (run (low_machine low p) k m) (run (low_machine better p) here.at n)
@@ -108,6 +109,7 @@ module _ (low better : Low) (p : Placement) (related : State → State → Type 
           next = point_next;
           alike = λ k. leads.alike _ _ (reached k).there;
           costs = λ k. (next_at k (reached k)).costs;
+          shown = λ k. (next_at k (reached k)).shown;
           passes = passed;
         }
 
@@ -134,6 +136,19 @@ costs_both (suc zero) second low middle better few below above =
     let same : 1 * middle ≡ middle = omega arith in
     omega arith
 costs_both (suc (suc first)) second low middle better few below above = absurd (omega arith)
+
+-- what a step or none shows is what a step or none of the middle one does
+shown_both : (first second : ℕ) (middle better : Low) (p : Placement) (b c : State) (events : List Event) → first ≤ 1 → trace (low_machine better p) second c ≡ shows p b.ending b → trace (low_machine middle p) first b ≡ events → trace (low_machine better p) (first * second) c ≡ events
+unfolding trace
+shown_both zero second middle better p b c events few below above = ap (λ k. trace (low_machine better p) k c) (none second) ∙ above
+  where
+    none : (k : ℕ) → 0 * k ≡ 0
+    none k = omega arith
+shown_both (suc zero) second middle better p b c events few below above = ap (λ k. trace (low_machine better p) k c) (one second) ∙ below ∙ sym (append-nil (shows p b.ending b)) ∙ above
+  where
+    one : (k : ℕ) → 1 * k ≡ k
+    one k = omega arith
+shown_both (suc (suc first)) second middle better p b c events few below above = absurd (omega arith)
 
 module _ {low better : Low} {p : Placement} {m n : State} (is : Shortens low better p m n) where
   point_rises : (a more : ℕ) → is.point a ≤ is.point (a + more)
@@ -166,6 +181,7 @@ shortens_through low middle better p a b c first second =
       next = λ k. ap second.point (first.next k) ∙ point_by second (first.point k) (first.moves k) (first.few k);
       alike = λ k. looks_through _ _ _ (first.alike k) (second.alike (first.point k));
       costs = λ k. costs_both (first.moves k) (second.moves (first.point k)) _ _ _ (first.few k) (second.costs (first.point k)) (first.costs k);
+      shown = λ k. shown_both (first.moves k) (second.moves (first.point k)) middle better p _ _ _ (first.few k) (second.shown (first.point k)) (first.shown k);
       passes = λ k. passes_through k (second.passes k);
     }
   where

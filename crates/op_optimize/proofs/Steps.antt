@@ -1,6 +1,6 @@
--- A step of low code by the first instruction of what is left of its block, and its cost.
+-- A step of low code by the first instruction of what is left of its block, what it shows and its cost.
 use Rattle.std.proofs.Common.{◌≡◌, ℕ, ◌+◌, Option, Some, None, List, [], ◌∷◌, length, refl, ap, ◌∙◌}
-use Rattle.op_low.specs.Machine.{act, cost, cost_by, cost_next, done, step, step_by_ending}
+use Rattle.op_low.specs.Machine.{act, cost, cost_by, cost_next, done, shown_by, shown_next, shows, step, step_by_ending}
 use Rattle.op_low.specs.State.{Activation, Ended, Placement, Running, State, bad, space, value}
 use Rattle.op_low.specs.declared.code.Low.{Low}
 use Rattle.op_low.specs.declared.ids.VirtualRegister.{VirtualRegister}
@@ -22,6 +22,16 @@ step_is_bad low p m running now = ap (λ e. step_by_ending low p e m) running �
 pub step_stays : (low : Low) (p : Placement) (m : State) (status : ℕ) → m.ending ≡ Ended status → step low p m ≡ m
 unfolding step step_by_ending
 step_stays low p m status ended = ap (λ e. step_by_ending low p e m) ended
+
+-- ---- what it shows
+
+pub shows_is : (p : Placement) (m : State) (i : Instruction) (is : List Instruction) → m.ending ≡ Running → m.top.now ≡ i ∷ is → shows p m.ending m ≡ shown_by p i m
+unfolding shows
+shows_is p m i is running now = ap (λ e. shows p e m) running ∙ ap (λ code. shown_next p code m) now
+
+pub shows_ended : (p : Placement) (m : State) (status : ℕ) → m.ending ≡ Ended status → shows p m.ending m ≡ []
+unfolding shows
+shows_ended p m status ended = ap (λ e. shows p e m) ended
 
 -- ---- what it costs
 

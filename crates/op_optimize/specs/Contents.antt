@@ -3,7 +3,7 @@ use Rattle.std.specs.Prelude.{ℕ, Bool, false, ◌&&◌, Option, Some, None, Li
 use Rattle.std.specs.List.{list_any}
 use Rattle.op_low.specs.declared.ids.VirtualRegister.{VirtualRegister}
 use Rattle.op_low.specs.declared.instruction.Instruction.{Instruction}
-use Rattle.op_low.specs.declared.instruction.Instruction.TheVariants.{Const, Address}
+use Rattle.op_low.specs.declared.instruction.Instruction.TheVariants.{Const, Address, Local, Move, Alu, AluImm, Shift, Load, Store, Call, CallAt, Branch, Jump, Return, Raise, Read, Write, Exit}
 use Rattle.op_rv.specs.declared.symbol.Symbol.{Symbol}
 use Rattle.op_rv.specs.declared.symbol.Symbol.TheVariants.{Literal, Global}
 use Rattle.op_optimize.specs.Reading.{same}
@@ -14,7 +14,22 @@ use Rattle.op_optimize.specs.declared.fact.Known.{Known}
 unfoldable pub content_of : Instruction → Option Content
 content_of (Const to n) = Some (Number n)
 content_of (Address to symbol) = Some (Place symbol)
-content_of _ = None
+content_of (Local to offset) = None
+content_of (Move to from) = None
+content_of (Alu op to left right) = None
+content_of (AluImm op to left imm) = None
+content_of (Shift op to left amount) = None
+content_of (Load op to base offset) = None
+content_of (Store op v base offset) = None
+content_of (Call id call) = None
+content_of (CallAt address call) = None
+content_of (Branch op left right block) = None
+content_of (Jump block) = None
+content_of (Return v) = None
+content_of Raise = None
+content_of (Read to buffer size) = None
+content_of (Write output buffer size) = None
+content_of (Exit status) = None
 
 unfoldable pub same_symbol : Symbol → Symbol → Bool
 same_symbol (Literal a) (Literal b) = nat_eq a.0 b.0

@@ -45,10 +45,16 @@ target_of (Alu op to left right) = Some to
 target_of (AluImm op to left imm) = Some to
 target_of (Shift op to left amount) = Some to
 target_of (Load op to base offset) = Some to
+target_of (Store op v base offset) = None
 target_of (Call id call) = Some call.to
 target_of (CallAt address call) = Some call.to
+target_of (Branch op left right block) = None
+target_of (Jump block) = None
+target_of (Return v) = None
+target_of Raise = None
 target_of (Read to buffer size) = Some to
-target_of _ = None
+target_of (Write output buffer size) = None
+target_of (Exit status) = None
 
 abbrev pub is_some_one : Option VirtualRegister → VirtualRegister → Bool
 is_some_one None r = false

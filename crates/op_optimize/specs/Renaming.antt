@@ -45,8 +45,24 @@ renamed_instruction n (Exit status) = Exit (renamed n status)
 -- ---- code: a move between two registers of one name is left out
 
 unfoldable pub is_idle : List ℕ → Instruction → Bool
+is_idle names (Const to n) = false
+is_idle names (Address to symbol) = false
+is_idle names (Local to offset) = false
 is_idle names (Move to from) = same (renamed names to) (renamed names from)
-is_idle names _ = false
+is_idle names (Alu op to left right) = false
+is_idle names (AluImm op to left imm) = false
+is_idle names (Shift op to left amount) = false
+is_idle names (Load op to base offset) = false
+is_idle names (Store op v base offset) = false
+is_idle names (Call id call) = false
+is_idle names (CallAt address call) = false
+is_idle names (Branch op left right block) = false
+is_idle names (Jump block) = false
+is_idle names (Return v) = false
+is_idle names Raise = false
+is_idle names (Read to buffer size) = false
+is_idle names (Write output buffer size) = false
+is_idle names (Exit status) = false
 
 unfoldable pub renamed_code : List ℕ → List Instruction → List Instruction
 renamed_code names [] = []
@@ -63,8 +79,24 @@ renamed_routine names registers routine = record { parameters = routine.paramete
 
 -- what is moved stays as well as where it goes
 abbrev pub is_moved : Instruction → VirtualRegister → Bool
+is_moved (Const to n) r = false
+is_moved (Address to symbol) r = false
+is_moved (Local to offset) r = false
 is_moved (Move to from) r = same from r
-is_moved _ r = false
+is_moved (Alu op to left right) r = false
+is_moved (AluImm op to left imm) r = false
+is_moved (Shift op to left amount) r = false
+is_moved (Load op to base offset) r = false
+is_moved (Store op v base offset) r = false
+is_moved (Call id call) r = false
+is_moved (CallAt address call) r = false
+is_moved (Branch op left right block) r = false
+is_moved (Jump block) r = false
+is_moved (Return v) r = false
+is_moved Raise r = false
+is_moved (Read to buffer size) r = false
+is_moved (Write output buffer size) r = false
+is_moved (Exit status) r = false
 
 -- a register, where another one is written: it has another name, or is not read any more, or has the same value then
 unfoldable pub is_apart : List ℕ → List ℕ → Instruction → List Instruction → (to r : VirtualRegister) → Bool

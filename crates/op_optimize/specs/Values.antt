@@ -3,7 +3,7 @@ use Rattle.std.specs.Prelude.{ℕ, zero, suc, pos, ◌-◌, ◌-ℤ◌, ◌%◌,
 use Rattle.std.specs.Ordering.{int_eq}
 use Rattle.op_low.specs.declared.ids.VirtualRegister.{VirtualRegister}
 use Rattle.op_low.specs.declared.instruction.Instruction.{Instruction}
-use Rattle.op_low.specs.declared.instruction.Instruction.TheVariants.{Const, Move, Alu, AluImm}
+use Rattle.op_low.specs.declared.instruction.Instruction.TheVariants.{Const, Address, Local, Move, Alu, AluImm, Shift, Load, Store, Call, CallAt, Branch, Jump, Return, Raise, Read, Write, Exit}
 use Rattle.op_rv.specs.declared.instruction.AluOp.{AluOp}
 use Rattle.op_rv.specs.declared.instruction.AluOp.TheVariants.{Add, Sub, Sll, Slt, Sltu, Xor, Srl, Sra, Or, And, Mul}
 use Rattle.op_rv.specs.declared.instruction.BranchOp.{BranchOp}
@@ -55,10 +55,23 @@ value_with_one nothing op v = None
 
 unfoldable pub value_of : List Fact → (nothing : VirtualRegister) → Instruction → Option Value
 value_of facts nothing (Const to n) = Some (Number n)
+value_of facts nothing (Address to symbol) = None
+value_of facts nothing (Local to offset) = None
 value_of facts nothing (Move to from) = Some (value_in facts from)
 value_of facts nothing (Alu op to left right) = alu_value facts nothing op left right
 value_of facts nothing (AluImm op to left imm) = if int_eq imm (pos 1) then value_with_one nothing op (value_in facts left) else None
-value_of facts nothing _ = None
+value_of facts nothing (Shift op to left amount) = None
+value_of facts nothing (Load op to base offset) = None
+value_of facts nothing (Store op v base offset) = None
+value_of facts nothing (Call id call) = None
+value_of facts nothing (CallAt address call) = None
+value_of facts nothing (Branch op left right block) = None
+value_of facts nothing (Jump block) = None
+value_of facts nothing (Return v) = None
+value_of facts nothing Raise = None
+value_of facts nothing (Read to buffer size) = None
+value_of facts nothing (Write output buffer size) = None
+value_of facts nothing (Exit status) = None
 
 -- what a register would have behind an instruction that writes it
 unfoldable pub value_behind : List Fact → List Known → (nothing to : VirtualRegister) → Instruction → Option Value

@@ -4,7 +4,7 @@ use Rattle.std.specs.Prelude.{ℕ, zero, suc, pos, Bool, true, false, ◌&&◌, 
 use Rattle.std.specs.Ordering.{int_eq}
 use Rattle.op_low.specs.declared.ids.VirtualRegister.{VirtualRegister}
 use Rattle.op_low.specs.declared.instruction.Instruction.{Instruction}
-use Rattle.op_low.specs.declared.instruction.Instruction.TheVariants.{Const, Move, Alu, AluImm, Branch}
+use Rattle.op_low.specs.declared.instruction.Instruction.TheVariants.{Const, Address, Local, Move, Alu, AluImm, Shift, Load, Store, Call, CallAt, Branch, Jump, Return, Raise, Read, Write, Exit}
 use Rattle.op_rv.specs.declared.instruction.BranchOp.{BranchOp}
 use Rattle.op_rv.specs.declared.instruction.BranchOp.TheVariants.{Beq, Bne}
 use Rattle.op_rv.specs.declared.instruction.ImmOp.{ImmOp}
@@ -30,9 +30,24 @@ is_there (Some f) = true
 
 -- an instruction has a form with a number in place of a register that it reads
 unfoldable pub takes_number : Instruction → VirtualRegister → ℕ → Bool
+takes_number (Const to value) r n = false
+takes_number (Address to symbol) r n = false
+takes_number (Local to offset) r n = false
 takes_number (Move to from) r n = true
 takes_number (Alu op to left right) r n = not (same left r && same right r) && (same right r || is_commutative op) && is_there (folded op n)
-takes_number _ r n = false
+takes_number (AluImm op to left imm) r n = false
+takes_number (Shift op to left amount) r n = false
+takes_number (Load op to base offset) r n = false
+takes_number (Store op v base offset) r n = false
+takes_number (Call id call) r n = false
+takes_number (CallAt address call) r n = false
+takes_number (Branch op left right block) r n = false
+takes_number (Jump block) r n = false
+takes_number (Return v) r n = false
+takes_number Raise r n = false
+takes_number (Read to buffer size) r n = false
+takes_number (Write output buffer size) r n = false
+takes_number (Exit status) r n = false
 
 -- the first instruction that reads the number takes it, and none behind it does
 unfoldable pub number_serves : List ℕ → (most : ℕ) → (to : VirtualRegister) → ℕ → List Instruction → Bool

@@ -96,6 +96,12 @@ additive_refuses d end ks e h = refuses_map (Chain Multiplicative) (Operand Addi
 pub multiplicative_refuses : (d : ℕ) (end : Place) (ks : List Terminal) (e : ParseError) → Refuses Factor d end ks e → Refuses (Operand Multiplicative) d end ks e
 multiplicative_refuses d end ks e h = refuses_map Factor (Operand Multiplicative) d end ks e (λ d' b ls r s x. into_factor d' b ls r x) (hands_as Factor (Operand Multiplicative) d ks (λ i b ls r s x. (b, multiplicative_operand i b ls r x))) h
 
+-- a factor with nothing else
+pub factor_alone : (d : ℕ) (ks : List Terminal) → HandsOn Factor d ks (Chain Additive) d ks
+factor_alone d ks q x =
+    let term = out_of_chain Multiplicative d ks q (operand_alone Multiplicative d ks q (hands_as Factor (Operand Multiplicative) d ks (λ i b ls r s f. (b, multiplicative_operand i b ls r f)) q x)) in
+    out_of_chain Additive d ks q (operand_alone Additive d ks q (hands_as (Chain Multiplicative) (Operand Additive) d ks (λ i b ls r s f. (b, additive_operand i b ls r f)) q term))
+
 -- ---- operations
 
 abbrev pub operations_before : List Operation → Operations → Operations

@@ -79,18 +79,18 @@ pub name_alone : (i : ℕ) (p : Position) (r : List Terminal) → IsExpr i (a_na
 name_alone i p r = is_chain (is_simple (is_chain (is_term (is_chain (is_factor (is_designated (is_designator is_named are_no_selectors))) are_no_operations refl)) are_no_operations refl)) are_no_operations refl
 
 pub some_expression : Position → Sample (Chain Relational) Any
-some_expression p = record { tokens = kind.Identifier [] at p ∷ []; behind = []; part = a_name p; stands = λ i. (name_alone i p [], stop (a_name p) [] (tt, tt)); fits = tt }
+some_expression p = record { tokens = kind.Identifier [] at p ∷ []; behind = []; part = a_name p; stands = λ i. (name_alone (suc i) p [], stop (a_name p) [] (tt, tt)); fits = tt }
 
--- a factor begins with each token that an expression begins with
+-- a factor of a greater depth begins with each token that an expression begins with
 pub factor_at : (d : ℕ) (k : TokenKind) (p : Position) (r : List Terminal) → begins_expression k ≡ true → Alive Factor d (k at p ∷ r) (k at p ∷ r)
-factor_at d (kind.Identifier text) p r b = alive_here Factor d d (kind.Identifier text at p) r [] [] (designated (designator (named (name text p)) no_selectors)) (omega arith) (is_designated (is_designator is_named are_no_selectors), tt)
-factor_at d kind.String p r b = alive_here Factor d d (kind.String at p) r [] [] (designated (designator (string p) no_selectors)) (omega arith) (is_designated (is_designator is_string are_no_selectors), tt)
+factor_at d (kind.Identifier text) p r b = alive_here Factor d (suc d) (kind.Identifier text at p) r [] [] (designated (designator (named (name text p)) no_selectors)) (omega arith) (is_designated (is_designator is_named are_no_selectors), tt)
+factor_at d kind.String p r b = alive_here Factor d (suc d) (kind.String at p) r [] [] (designated (designator (string p) no_selectors)) (omega arith) (is_designated (is_designator is_string are_no_selectors), tt)
 factor_at d kind.OpenParenthesis p r b = alive_here Factor d (suc d) (kind.OpenParenthesis at p) r (kind.Identifier [] at p ∷ kind.CloseParenthesis at p ∷ []) [] (designated (designator (bracketed p (a_name p)) no_selectors)) (omega arith) (is_designated (is_designator (is_bracketed (name_alone d p (kind.CloseParenthesis at p ∷ []))) are_no_selectors), tt)
-factor_at d (kind.Number n) p r b = alive_here Factor d d (kind.Number n at p) r [] [] (number n p) (omega arith) (is_number, tt)
-factor_at d kind.Nil p r b = alive_here Factor d d (kind.Nil at p) r [] [] (nil p) (omega arith) (is_nil, tt)
+factor_at d (kind.Number n) p r b = alive_here Factor d (suc d) (kind.Number n at p) r [] [] (number n p) (omega arith) (is_number, tt)
+factor_at d kind.Nil p r b = alive_here Factor d (suc d) (kind.Nil at p) r [] [] (nil p) (omega arith) (is_nil, tt)
 factor_at d kind.OpenBracket p r b = alive_here Factor d (suc d) (kind.OpenBracket at p) r (kind.CloseBracket at p ∷ []) [] (set p no_elements) (omega arith) (is_empty_set, tt)
-factor_at d (kind.CharacterString text) p r b = alive_here Factor d d (kind.CharacterString text at p) r [] [] (literal text p no_selectors) (omega arith) (is_literal are_no_selectors, tt)
-factor_at d kind.Inherited p r b = alive_here Factor d d (kind.Inherited at p) r (kind.Identifier [] at p ∷ []) [] (inherited p (designator (named (name [] p)) no_selectors)) (omega arith) (is_inherited (is_designator is_named are_no_selectors), tt)
+factor_at d (kind.CharacterString text) p r b = alive_here Factor d (suc d) (kind.CharacterString text at p) r [] [] (literal text p no_selectors) (omega arith) (is_literal are_no_selectors, tt)
+factor_at d kind.Inherited p r b = alive_here Factor d (suc d) (kind.Inherited at p) r (kind.Identifier [] at p ∷ []) [] (inherited p (designator (named (name [] p)) no_selectors)) (omega arith) (is_inherited (is_designator is_named are_no_selectors), tt)
 factor_at d kind.Not p r b = alive_here Factor d (suc d) (kind.Not at p) r (kind.Identifier [] at p ∷ []) [] (prefixed prefix.Not p (a_name p)) (omega arith) (is_prefixed refl (is_designated (is_designator is_named are_no_selectors)), tt)
 factor_at d kind.Plus p r b = alive_here Factor d (suc d) (kind.Plus at p) r (kind.Identifier [] at p ∷ []) [] (prefixed prefix.Plus p (a_name p)) (omega arith) (is_prefixed refl (is_designated (is_designator is_named are_no_selectors)), tt)
 factor_at d kind.Minus p r b = alive_here Factor d (suc d) (kind.Minus at p) r (kind.Identifier [] at p ∷ []) [] (prefixed prefix.Minus p (a_name p)) (omega arith) (is_prefixed refl (is_designated (is_designator is_named are_no_selectors)), tt)

@@ -13,7 +13,7 @@ use Rattle.op_parse_code.proofs.Refusing.{Some_, Seq, HandsOn, refuses_map, refu
 use Rattle.op_parse_code.proofs.StatementKnown.{same_front_is, known_name, known_on, known_statements}
 use Rattle.op_parse_code.proofs.Statements.{closed, ends_all, StatementsEnd, RestsAll, fits_name, fits_statements, some_end}
 use Rattle.op_parse_code.specs.Opening.{is_word, spelled, is_identifier}
-use Rattle.op_parse_code.specs.Refusal.{Phrase, SameHead, Dead, Alive, Refuses, out_of_memory, syntax, nested, left_out, in_grammar, Decides, decides_there, decides_behind, refused_at}
+use Rattle.op_parse_code.specs.Refusal.{Phrase, SameHead, Dead, Alive, Refuses, out_of_memory, syntax, nested, in_grammar, Decides, decides_there, decides_behind, refused_at}
 use Rattle.op_parse_code.specs.Whole.{Marked, NoMark, SomeName}
 use Rattle.op_parse_code.specs.WholeStatement.{SomeStatement, SomeStatements, SomeHandlers, SomeOn, SomeExcept, Rest, finally_rest, except_rest, on_rest, on_else_rest, try_of, IsHandled, ClassTail, class_of, Behind, front_is, begins_handler}
 use Rattle.op_parse_code.specs.declared.error.ParseError.{ParseError}
@@ -344,7 +344,6 @@ pub except_statements : (d : ℕ) (end : Place) (ks : List Terminal) (e : ParseE
 except_statements d end ks e h (out_of_memory x) = out_of_memory x
 except_statements d end ks e h (syntax q x never) = syntax q x (λ d'. statements_dead d' ks q _ refl h never (never d'))
 except_statements d end ks e h (nested q z n x w never v lives) = statements_nested d end ks q z n e _ refl h x w never v (statements_except d ks n lives)
-except_statements d end ks e h (left_out feature q m x f never) = left_out feature q m x f (λ d'. statements_dead d' ks m _ refl h never (never d'))
 except_statements d end ks e h (in_grammar feature q x f) = in_grammar feature q x f
 
 pub except_whole : (u : Position) (d : ℕ) (ss : Statements) (ks m r : List Terminal) → SomeStatements d ss ks m → m ≡ kind.End at u ∷ r → SomeExcept d (except_rest ss) ks r
@@ -381,7 +380,6 @@ pub except_handlers : (d : ℕ) (end : Place) (ks : List Terminal) (e : ParseErr
 except_handlers d end ks e h (out_of_memory x) = out_of_memory x
 except_handlers d end ks e h (syntax q x never) = syntax q x (λ d'. handlers_dead d' ks q h (never d'))
 except_handlers d end ks e h (nested q z n x w never v lives) = nested q z n x w (handlers_dead d ks z h never) v (handlers_except d ks h n lives)
-except_handlers d end ks e h (left_out feature q m x f never) = left_out feature q m x f (λ d'. handlers_dead d' ks m h (never d'))
 except_handlers d end ks e h (in_grammar feature q x f) = in_grammar feature q x f
 
 pub except_on_whole : (u : Position) (d : ℕ) (hs : Handlers) (ks o r : List Terminal) → begins_handler ks ≡ true → SomeHandlers d hs ks o → Marked mark.End d u o r → SomeExcept d (on_rest hs) ks r

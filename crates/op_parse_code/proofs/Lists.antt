@@ -11,6 +11,7 @@ use Rattle.op_parse_code.specs.declared.mark.Mark.{Mark}
 use Rattle.op_scan.specs.declared.token.TokenKind.{TokenKind}
 use Rattle.op_scan.specs.declared.token.TokenKind.TheVariants as kind
 use Rattle.op_tree.proofs.ExpressionUnique.{behind}
+use Rattle.op_tree.proofs.StatementUnique.{head_kind}
 use Rattle.op_tree.specs.Terminal.{Terminal, ◌at◌}
 use Rattle.op_tree.specs.declared.position.Position.{Position}
 
@@ -37,7 +38,7 @@ hands_item Item More by close C d ks join fit c q x = hands_as (Seq Item (Tail M
 pub list_item : {D : Decision} {W V : Shown} {A X : Type 0} (Item : Phrase A) (More : Phrase X) (by close : Mark) (d : ℕ) (end : Place) (ks : List Terminal) (e : ParseError) → Splits Item More by close → Shows W d ks V d ks → RefusesBy D W Item d end ks e → RefusesBy D V More d end ks e
 list_item {V = V} Item More by close d end ks e into k h = refuses_map_by {W = V} (Seq Item (Tail More by close)) More d end ks e (λ d' b ls r s x. into d' b ls r x) (λ q x. x) (refuses_first_by Item (Tail More by close) d end ks e k h)
 
-tail_close : {X : Type 0} (More : Phrase X) (by close : Mark) (m : List Terminal) → NoMark by m → (d : ℕ) (x : Option X) (ls r : List Terminal) → SameHead m ls → Tail More by close d x ls r → Some_ (Marked close) d ls
+pub tail_close : {X : Type 0} (More : Phrase X) (by close : Mark) (m : List Terminal) → NoMark by m → (d : ℕ) (x : Option X) (ls r : List Terminal) → SameHead m ls → Tail More by close d x ls r → Some_ (Marked close) d ls
 tail_close More by close m none d None ls r s (q, e) = (q, r, e)
 tail_close More by close m none d (Some x) ls r s (p, m1, e, f) = absurd (no_mark_same by m ls s none p m1 e)
 
@@ -47,14 +48,10 @@ hands_close Item More by close d a ks m join known p q x = hands_as (Seq Item (T
 pub list_close : {D : Decision} {W V : Shown} {A X : Type 0} (Item : Phrase A) (More : Phrase X) (by close : Mark) (d : ℕ) (end : Place) (a : A) (ks m : List Terminal) (e : ParseError) → Splits Item More by close → Known Item → Item d a ks m → NoMark by m → Shows W d m V d ks → RefusesBy D W (Marked close) d end m e → RefusesBy D V More d end ks e
 list_close {W = W} {V = V} Item More by close d end a ks m e into known p none k h = refuses_map_by {W = V} (Seq Item (Tail More by close)) More d end ks e (λ d' b ls r s x. into d' b ls r x) (λ q x. x) (refuses_after_by {W = W} Item (Tail More by close) d end a ks m e known p k (refuses_map_by {W = W} (Marked close) (Tail More by close) d end m e (tail_close More by close m none) (λ q x. x) h))
 
-abbrev pub first_kind : List Terminal → TokenKind
-first_kind [] = kind.End
-first_kind (t ∷ ts) = t.kind
-
 pub kind_same : {k k' : TokenKind} {p p' : Position} {r r' : List Terminal} → k at p ∷ r ≡ k' at p' ∷ r' → k ≡ k'
-kind_same h = ap first_kind h
+kind_same h = ap head_kind h
 
-tail_more : {X : Type 0} (More : Phrase X) (by close : Mark) (p : Position) → (kind_of by ≡ kind_of close → ⊥) → (d : ℕ) (x : Option X) (ls r : List Terminal) → Tail More by close d x (kind_of by at p ∷ ls) r → Some_ More d ls
+pub tail_more : {X : Type 0} (More : Phrase X) (by close : Mark) (p : Position) → (kind_of by ≡ kind_of close → ⊥) → (d : ℕ) (x : Option X) (ls r : List Terminal) → Tail More by close d x (kind_of by at p ∷ ls) r → Some_ More d ls
 tail_more More by close p other d None ls r (q, e) = absurd (other (kind_same e))
 tail_more More by close p other d (Some x) ls r (q, m, e, f) = (x, r, subst (λ z. More d x z r) (sym (ap behind e)) f)
 
@@ -87,7 +84,7 @@ hands_alone Item More Whole by C d ks join fit c q x = hands_as (Seq Item (Open 
 pub open_item : {D : Decision} {W V : Shown} {A X Y : Type 0} (Item : Phrase A) (More : Phrase X) (Whole : Phrase Y) (by : Mark) (d : ℕ) (end : Place) (ks : List Terminal) (e : ParseError) → SplitsOpen Item More Whole by → Shows W d ks V d ks → RefusesBy D W Item d end ks e → RefusesBy D V Whole d end ks e
 open_item {V = V} Item More Whole by d end ks e into k h = refuses_map_by {W = V} (Seq Item (Open More by)) Whole d end ks e (λ d' b ls r s x. into d' b ls r x) (λ q x. x) (refuses_first_by Item (Open More by) d end ks e k h)
 
-open_behind : {X : Type 0} (More : Phrase X) (by : Mark) (p : Position) (d : ℕ) (x : Option X) (ls r : List Terminal) → Open More by d x (kind_of by at p ∷ ls) r → Some_ More d ls
+pub open_behind : {X : Type 0} (More : Phrase X) (by : Mark) (p : Position) (d : ℕ) (x : Option X) (ls r : List Terminal) → Open More by d x (kind_of by at p ∷ ls) r → Some_ More d ls
 open_behind More by p d None ls r (none, e) = absurd (none p ls refl)
 open_behind More by p d (Some x) ls r (q, m, e, f) = (x, r, subst (λ z. More d x z r) (sym (ap behind e)) f)
 

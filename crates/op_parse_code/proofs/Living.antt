@@ -1,5 +1,5 @@
 -- Tokens that begin a part of a greater depth begin what it is a part of.
-use Rattle.std.proofs.Common.{◌≡◌, ◌≤◌, ℕ, suc, List, [], ◌∷◌, ◌++◌, append_assoc, refl, sym, ap, ◌∙◌, subst, arith}
+use Rattle.std.proofs.Common.{◌≡◌, ◌<◌, ◌-◌, ℕ, suc, List, [], ◌∷◌, ◌++◌, append_assoc, refl, sym, ap, ◌∙◌, subst, arith}
 use Rattle.op_parse_code.proofs.Cuts.{IsCut, cut_none, cut_one, cut_seen, same_behind}
 use Rattle.op_parse_code.proofs.Refusing.{Seq, HandsOn, append_same_front}
 use Rattle.op_parse_code.specs.Refusal.{Phrase, SameHead, Alive}
@@ -45,8 +45,8 @@ hands_counted P Q d t ks h q x =
     let w = h x.depth x.part (x.seen ++ (x.first ∷ (x.others ++ x.behind))) x.behind x.stands in
     record { seen = t ∷ x.seen; first = x.first; rest = x.rest; from = ap (λ z. t ∷ z) x.from; to = x.to; depth = suc x.depth; deep = omega (arith, x.deep); others = x.others; behind = x.behind; part = w.0; stands = w.1 }
 
--- at its first token
-pub alive_here : {A : Type 0} (P : Phrase A) (d i : ℕ) (t : Terminal) (r others behind : List Terminal) (a : A) → d ≤ i → P i a (t ∷ (others ++ behind)) behind → Alive P d (t ∷ r) (t ∷ r)
+-- at its first token, one of a greater depth
+pub alive_here : {A : Type 0} (P : Phrase A) (d i : ℕ) (t : Terminal) (r others behind : List Terminal) (a : A) → d < i → P i a (t ∷ (others ++ behind)) behind → Alive P d (t ∷ r) (t ∷ r)
 alive_here P d i t r others behind a deep h = record { seen = []; first = t; rest = r; from = refl; to = refl; depth = i; deep = deep; others = others; behind = behind; part = a; stands = h }
 
 -- ---- one part, and behind it another
@@ -55,17 +55,18 @@ alive_here P d i t r others behind a deep h = record { seen = []; first = t; res
 abbrev pub Fits : {A : Type 0} → Phrase A → (List Terminal → Type 0) → Type 0
 Fits {A} P C = (d : ℕ) (a : A) (ks r : List Terminal) → P d a ks r → (f : List Terminal → List Terminal) × IsCut f × (ks ≡ f r) × ((x : List Terminal) → C x → P d a (f x) x)
 
--- A part that stands at any depth where nothing is nested, with such tokens before it.
+-- A part that stands at any depth but none, with such tokens before it.
 pub record Sample {B : Type 0} (Q : Phrase B) (C : List Terminal → Type 0) : Type 0 where
   pub tokens : List Terminal
   pub behind : List Terminal
   pub part : B
-  pub stands : (i : ℕ) → Q i part (tokens ++ behind) behind
+  pub stands : (i : ℕ) → Q (suc i) part (tokens ++ behind) behind
   pub fits : C (tokens ++ behind)
 
 pub hands_first : {A B : Type 0} (P : Phrase A) (Q : Phrase B) (C : List Terminal → Type 0) (d : ℕ) (ks : List Terminal) → Fits P C → (Position → Sample Q C) → HandsOn P d ks (Seq P Q) d ks
 hands_first P Q C d ks fit samples q x =
     let sample = samples x.first.position in
+    let deep : suc (x.depth - 1) ≡ x.depth = omega (arith, x.deep) in
     let w = fit x.depth x.part (x.seen ++ (x.first ∷ (x.others ++ x.behind))) x.behind x.stands in
     let s = cut_seen w.1 in
     let used : List Terminal = x.seen ++ (x.first ∷ x.others) in
@@ -83,7 +84,7 @@ hands_first P Q C d ks fit samples q x =
       others = x.others ++ sample.tokens;
       behind = sample.behind;
       part = (x.part, sample.part);
-      stands = (ls, subst (λ z. P x.depth x.part z ls) (s.1 ls ∙ goes) (w.3 ls sample.fits), sample.stands x.depth);
+      stands = (ls, subst (λ z. P x.depth x.part z ls) (s.1 ls ∙ goes) (w.3 ls sample.fits), subst (λ (z : ℕ). Q z sample.part ls sample.behind) deep (sample.stands (x.depth - 1)));
     }
 
 -- any tokens

@@ -11,12 +11,11 @@ use Rattle.op_parse_code.specs.Whole.{SomeName}
 use Rattle.op_parse_code.specs.declared.error.ParseError.{ParseError}
 use Rattle.op_scan.specs.declared.token.TokenKind.{TokenKind}
 use Rattle.op_scan.specs.declared.token.TokenKind.TheVariants as kind
-use Rattle.op_tree.proofs.ExpressionUnique.{Begins}
+use Rattle.op_tree.proofs.DeclarationUnique.{name_begins}
 use Rattle.op_tree.proofs.StatementUnique.{both}
 use Rattle.op_tree.specs.Ends.{IsNot}
 use Rattle.op_tree.specs.NameGrammar.{IsName, is_name}
 use Rattle.op_tree.specs.Terminal.{Terminal, ◌at◌, name, terminals}
-use Rattle.op_tree.specs.declared.position.Name.{Name}
 use Rattle.op_tree.specs.declared.position.Position.{Position}
 use Rattle.op_scan.specs.declared.token.Token.{Token}
 
@@ -27,9 +26,6 @@ identifier_kind other h = absurd cc
 pub number_kind : (k : TokenKind) → is_number k ≡ true → (n : ℕ) × (k ≡ kind.Number n)
 number_kind (kind.Number n) h = (n, refl)
 number_kind other h = absurd cc
-
-name_begins : {n : Name} {ks r : List Terminal} → IsName n ks r → Begins is_identifier ks
-name_begins is_name = refl
 
 pub no_name_refuses : (d : ℕ) (end : Place) (ks : List Terminal) (e : ParseError) → IsNot is_identifier ks → e ≡ refused_at 9 0 end ks → Refuses SomeName d end ks e
 no_name_refuses d end ks e h x = syntax ks x (λ d'. dead_here (SomeName d') ks (λ a ls r s f. both is_identifier ls (name_begins f) (same_not is_identifier ks ls s h)))

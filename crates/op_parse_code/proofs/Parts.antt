@@ -5,7 +5,7 @@ use Rattle.std.proofs.lemmas.List.{take-append-drop}
 use Rattle.op_base.specs.declared.place.Place.{Place}
 use Rattle.op_parse_code.proofs.Cuts.{cut_seen, same_refl}
 use Rattle.op_parse_code.proofs.Refusing.{Known}
-use Rattle.op_parse_code.specs.Refusal.{Phrase, Dead, Decision, Shown, RefusesBy, out_of_memory, syntax, nested, left_out, in_grammar, IsFree}
+use Rattle.op_parse_code.specs.Refusal.{Phrase, Dead, Decision, Shown, RefusesBy, out_of_memory, syntax, nested, in_grammar, IsFree}
 use Rattle.op_parse_code.specs.declared.error.ParseError.{ParseError}
 use Rattle.op_tree.specs.Terminal.{Terminal}
 
@@ -22,7 +22,7 @@ behind_place P d a n ks r known p =
     let seen = cut_seen front.1 in
     behind_part n ks seen.0 r (front.2 ∙ seen.1 r)
 
-dead_none : {A : Type 0} (P : A → List Terminal → List Terminal → Type 0) (ks q : List Terminal) (a : A) (r : List Terminal) → P a ks r → Dead P ks q → ⊥
+pub dead_none : {A : Type 0} (P : A → List Terminal → List Terminal → Type 0) (ks q : List Terminal) (a : A) (r : List Terminal) → P a ks r → Dead P ks q → ⊥
 dead_none P ks q a r p (seen, e, never) = never q a r (same_refl q) (subst (λ z. P a z r) e p)
 
 -- a part that stands there is refused for a form of statements and expressions alone
@@ -30,7 +30,6 @@ pub refuses_free : {A : Type 0} {D : Decision} {W : Shown} (P : Phrase A) (d : �
 refuses_free P d end ks e a r p (out_of_memory x) = subst (IsFree end ks) (sym x) tt
 refuses_free P d end ks e a r p (syntax q x never) = absurd (dead_none (P d) ks q a r p (never d))
 refuses_free P d end ks e a r p (nested q m n x w never v lives) = absurd (dead_none (P d) ks m a r p never)
-refuses_free P d end ks e a r p (left_out feature q m x f never) = absurd (dead_none (P d) ks m a r p (never d))
 refuses_free P d end ks e a r p (in_grammar feature q x f) = subst (IsFree end ks) (sym x) (feature, q, f, refl)
 
 pub match_of : {T : Type 0} (P : T → Type 0) (Q : ParseError → Type 0) (r : Result T ParseError) → IfOk r P → IfErr r Q → MatchResult r P Q

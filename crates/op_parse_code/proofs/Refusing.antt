@@ -1,11 +1,10 @@
 -- Refusals of parts are refusals of what they are parts of.
-use Rattle.std.proofs.Common.{◌≡◌, ◌+◌, ◌-◌, ℕ, zero, suc, List, [], ◌∷◌, ◌++◌, append_assoc, refl, sym, ap, ◌∙◌, subst, length, length-append, arith}
-use Rattle.op_tree.proofs.ExpressionUnique.{behind, same2}
+use Rattle.std.proofs.Common.{◌≡◌, ◌+◌, ◌-◌, ℕ, zero, suc, List, [], ◌∷◌, ◌++◌, append_assoc, refl, sym, ap, ◌∙◌, subst, length, length-append, arith, ap₂}
+use Rattle.op_tree.proofs.ExpressionUnique.{behind}
 use Rattle.op_base.specs.declared.place.Place.{Place}
 use Rattle.op_parse_code.proofs.Cuts.{IsCut, cut_seen, same_behind}
 use Rattle.op_parse_code.specs.GrammarForm.{HasGrammarForm}
-use Rattle.op_parse_code.specs.Form.{HasForm}
-use Rattle.op_parse_code.specs.Refusal.{Phrase, SameHead, Dead, Alive, Shown, RefusesBy, Decision, out_of_memory, syntax, nested, left_out, in_grammar, refused_at, IsSyntax, Told, as_it_was, by_form}
+use Rattle.op_parse_code.specs.Refusal.{Phrase, SameHead, Dead, Leads, Alive, Shown, RefusesBy, Decision, out_of_memory, syntax, nested, in_grammar, refused_at}
 use Rattle.op_parse_code.specs.Whole.{Marked, NoMark}
 use Rattle.op_parse_code.specs.declared.error.ParseError.{ParseError}
 use Rattle.op_parse_code.specs.declared.mark.Mark.{Mark}
@@ -19,7 +18,7 @@ Some_ {A} P d ks = (a : A) × (r : List Terminal) × P d a ks r
 abbrev pub Seq : {A B : Type 0} → Phrase A → Phrase B → Phrase (A × B)
 Seq P Q d x ks r = (m : List Terminal) × P d x.0 ks m × Q d x.1 m r
 
-head_same : {t u : Terminal} {ks ls : List Terminal} → t ∷ ks ≡ u ∷ ls → t ≡ u
+pub head_same : {t u : Terminal} {ks ls : List Terminal} → t ∷ ks ≡ u ∷ ls → t ≡ u
 head_same h = cc
 
 pub suc_same : {n m : ℕ} → suc n ≡ suc m → n ≡ m
@@ -30,43 +29,43 @@ pub append_same_front : (f g q : List Terminal) → f ++ q ≡ g ++ q → f ≡ 
 append_same_front [] [] q h = refl
 append_same_front [] (u ∷ g) q h = absurd (omega (arith, ap length h, length-append g q))
 append_same_front (t ∷ f) [] q h = absurd (omega (arith, ap length h, length-append f q))
-append_same_front (t ∷ f) (u ∷ g) q h = same2 (λ x y. x ∷ y) (head_same h) (append_same_front f g q (ap behind h))
+append_same_front (t ∷ f) (u ∷ g) q h = ap₂ (λ x y. x ∷ y) (head_same h) (append_same_front f g q (ap behind h))
 
 -- ---- tokens in front
-
-pub with_token : (t : Terminal) {feature : ℕ} {ks q : List Terminal} → HasForm feature ks q → HasForm feature (t ∷ ks) q
-with_token t (seen, form, e, f) = (t ∷ seen, form, ap (λ z. t ∷ z) e, f)
 
 pub with_token_in_grammar : (t : Terminal) {feature : ℕ} {ks q : List Terminal} → HasGrammarForm feature ks q → HasGrammarForm feature (t ∷ ks) q
 with_token_in_grammar t (seen, form, e, f) = (t ∷ seen, form, ap (λ z. t ∷ z) e, f)
 
-pub with_front : (front : List Terminal) {feature : ℕ} {ks m q : List Terminal} → ks ≡ front ++ m → HasForm feature m q → HasForm feature ks q
-with_front front e (seen, form, e1, f) = (front ++ seen, form, e ∙ ap (λ z. front ++ z) e1 ∙ sym (append_assoc front seen form), f)
-
 pub with_front_in_grammar : (front : List Terminal) {feature : ℕ} {ks m q : List Terminal} → ks ≡ front ++ m → HasGrammarForm feature m q → HasGrammarForm feature ks q
 with_front_in_grammar front e (seen, form, e1, f) = (front ++ seen, form, e ∙ ap (λ z. front ++ z) e1 ∙ sym (append_assoc front seen form), f)
 
-dead_token : {A B : Type 0} (P : A → List Terminal → List Terminal → Type 0) (Q : B → List Terminal → List Terminal → Type 0) (t : Terminal) (ks q : List Terminal) → ((b : B) (ls r : List Terminal) → Q b (t ∷ ls) r → (a : A) × (r' : List Terminal) × P a ls r') → Dead P ks q → Dead Q (t ∷ ks) q
-dead_token P Q t ks q h (seen, e, never) = (t ∷ seen, ap (λ z. t ∷ z) e, λ ls b r s x. let w = h b (seen ++ ls) r x in never ls w.0 w.1 s w.2)
+pub leads_token : {A B : Type 0} (P : A → List Terminal → List Terminal → Type 0) (Q : B → List Terminal → List Terminal → Type 0) (G : List Terminal → Type 0) (t : Terminal) (ks q : List Terminal) → ((b : B) (ls r : List Terminal) → Q b (t ∷ ls) r → (a : A) × (r' : List Terminal) × P a ls r') → Leads P ks q G → Leads Q (t ∷ ks) q G
+leads_token P Q G t ks q h (seen, e, never) = (t ∷ seen, ap (λ z. t ∷ z) e, λ ls b r s x. let w = h b (seen ++ ls) r x in never ls w.0 w.1 s w.2)
 
-dead_map : {A B : Type 0} (P : A → List Terminal → List Terminal → Type 0) (Q : B → List Terminal → List Terminal → Type 0) (ks q : List Terminal) → ((b : B) (ls r : List Terminal) → SameHead ks ls → Q b ls r → (a : A) × (r' : List Terminal) × P a ls r') → Dead P ks q → Dead Q ks q
-dead_map P Q ks q h (seen, e, never) = (seen, e, λ ls b r s x. let w = h b (seen ++ ls) r (subst (λ z. SameHead z (seen ++ ls)) (sym e) (same_behind seen q ls s)) x in never ls w.0 w.1 s w.2)
+pub leads_map : {A B : Type 0} (P : A → List Terminal → List Terminal → Type 0) (Q : B → List Terminal → List Terminal → Type 0) (G : List Terminal → Type 0) (ks q : List Terminal) → ((b : B) (ls r : List Terminal) → SameHead ks ls → Q b ls r → (a : A) × (r' : List Terminal) × P a ls r') → Leads P ks q G → Leads Q ks q G
+leads_map P Q G ks q h (seen, e, never) = (seen, e, λ ls b r s x. let w = h b (seen ++ ls) r (subst (λ z. SameHead z (seen ++ ls)) (sym e) (same_behind seen q ls s)) x in never ls w.0 w.1 s w.2)
+
+leads_seen : {A : Type 0} (P : A → List Terminal → List Terminal → Type 0) (G : List Terminal → Type 0) (ks q front : List Terminal) → ks ≡ front ++ q → Leads P ks q G → (ls : List Terminal) (a : A) (r : List Terminal) → SameHead q ls → P a (front ++ ls) r → G ls
+leads_seen P G ks q front e (seen, e1, never) ls a r s x = never ls a r s (subst (λ z. P a (z ++ ls) r) (append_same_front front seen q (sym e ∙ e1)) x)
 
 pub inside_seen : {A : Type 0} (P : A → List Terminal → List Terminal → Type 0) (ks q front : List Terminal) → ks ≡ front ++ q → Dead P ks q → (ls : List Terminal) (a : A) (r : List Terminal) → SameHead q ls → P a (front ++ ls) r → ⊥
-inside_seen P ks q front e (seen, e1, never) ls a r s x = never ls a r s (subst (λ z. P a (z ++ ls) r) (append_same_front front seen q (sym e ∙ e1)) x)
+inside_seen P ks q front e dead = leads_seen P (λ ls. ⊥) ks q front e dead
 
 pub dead_here : {A : Type 0} (P : A → List Terminal → List Terminal → Type 0) (ks : List Terminal) → ((a : A) (ls r : List Terminal) → SameHead ks ls → P a ls r → ⊥) → Dead P ks ks
 dead_here P ks h = ([], refl, λ ls a r s x. h a ls r s x)
 
-pub inside_any : {A B : Type 0} (P : Phrase A) (Q : Phrase B) (d' : ℕ) (t : Terminal) (ks q : List Terminal) → ((b : B) (ls r : List Terminal) → Q d' b (t ∷ ls) r → (i : ℕ) × (d' ≡ suc i) × Some_ P i ls) → ((i : ℕ) → Dead (P i) ks q) → Dead (Q d') (t ∷ ks) q
-inside_any P Q d' t ks q h never =
+pub leads_inside : {A B : Type 0} (P : Phrase A) (Q : Phrase B) (G : List Terminal → Type 0) (d' : ℕ) (t : Terminal) (ks q : List Terminal) → ((b : B) (ls r : List Terminal) → Q d' b (t ∷ ls) r → (i : ℕ) × (d' ≡ suc i) × Some_ P i ls) → ((i : ℕ) → Leads (P i) ks q G) → Leads (Q d') (t ∷ ks) q G
+leads_inside P Q G d' t ks q h never =
     let first = never d' in
-    (t ∷ first.0, ap (λ z. t ∷ z) first.1, λ ls b r s x. let w = h b (first.0 ++ ls) r x in inside_seen (P w.0) ks q first.0 first.1 (never w.0) ls w.2.0 w.2.1 s w.2.2)
+    (t ∷ first.0, ap (λ z. t ∷ z) first.1, λ ls b r s x. let w = h b (first.0 ++ ls) r x in leads_seen (P w.0) G ks q first.0 first.1 (never w.0) ls w.2.0 w.2.1 s w.2.2)
 
-deeper_any : {A B : Type 0} (P : Phrase A) (Q : Phrase B) (d' : ℕ) (ks q : List Terminal) → ((b : B) (ls r : List Terminal) → SameHead ks ls → Q d' b ls r → (i : ℕ) × (d' ≡ suc i) × Some_ P i ls) → ((i : ℕ) → Dead (P i) ks q) → Dead (Q d') ks q
-deeper_any P Q d' ks q h never =
+pub inside_any : {A B : Type 0} (P : Phrase A) (Q : Phrase B) (d' : ℕ) (t : Terminal) (ks q : List Terminal) → ((b : B) (ls r : List Terminal) → Q d' b (t ∷ ls) r → (i : ℕ) × (d' ≡ suc i) × Some_ P i ls) → ((i : ℕ) → Dead (P i) ks q) → Dead (Q d') (t ∷ ks) q
+inside_any P Q d' t ks q h never = leads_inside P Q (λ ls. ⊥) d' t ks q h never
+
+pub leads_deeper : {A B : Type 0} (P : Phrase A) (Q : Phrase B) (G : List Terminal → Type 0) (d' : ℕ) (ks q : List Terminal) → ((b : B) (ls r : List Terminal) → SameHead ks ls → Q d' b ls r → (i : ℕ) × (d' ≡ suc i) × Some_ P i ls) → ((i : ℕ) → Leads (P i) ks q G) → Leads (Q d') ks q G
+leads_deeper P Q G d' ks q h never =
     let first = never d' in
-    (first.0, first.1, λ ls b r s x. let w = h b (first.0 ++ ls) r (subst (λ z. SameHead z (first.0 ++ ls)) (sym first.1) (same_behind first.0 q ls s)) x in inside_seen (P w.0) ks q first.0 first.1 (never w.0) ls w.2.0 w.2.1 s w.2.2)
+    (first.0, first.1, λ ls b r s x. let w = h b (first.0 ++ ls) r (subst (λ z. SameHead z (first.0 ++ ls)) (sym first.1) (same_behind first.0 q ls s)) x in leads_seen (P w.0) G ks q first.0 first.1 (never w.0) ls w.2.0 w.2.1 s w.2.2)
 
 -- ---- parts of a greater depth
 
@@ -74,7 +73,7 @@ deeper_any P Q d' ks q h never =
 abbrev pub Shows : Shown → ℕ → List Terminal → Shown → ℕ → List Terminal → Type 0
 Shows W d ks V i ls = (q : List Terminal) → W d ks q → V i ls q
 
--- Where tokens begin a part of this depth or a greater one, others do, up to the same token.
+-- Where tokens begin a part of a greater depth, others do, up to the same token.
 abbrev pub HandsOn : {A B : Type 0} → Phrase A → ℕ → List Terminal → Phrase B → ℕ → List Terminal → Type 0
 HandsOn P d ks Q i ls = Shows (Alive P) d ks (Alive Q) i ls
 
@@ -83,33 +82,29 @@ HandsOn P d ks Q i ls = Shows (Alive P) d ks (Alive Q) i ls
 -- at the same depth, what stands behind a token
 pub refuses_behind_by : {A B : Type 0} {D : Decision} {W V : Shown} (P : Phrase A) (Q : Phrase B) (d : ℕ) (end : Place) (t : Terminal) (ks : List Terminal) (e : ParseError) → ((d' : ℕ) (b : B) (ls r : List Terminal) → Q d' b (t ∷ ls) r → Some_ P d' ls) → Shows W d ks V d (t ∷ ks) → RefusesBy D W P d end ks e → RefusesBy D V Q d end (t ∷ ks) e
 refuses_behind_by P Q d end t ks e h k (out_of_memory x) = out_of_memory x
-refuses_behind_by P Q d end t ks e h k (syntax q x never) = syntax q x (λ d'. dead_token (P d') (Q d') t ks q (h d') (never d'))
-refuses_behind_by P Q d end t ks e h k (nested q z n x w never v lives) = nested q z n x w (dead_token (P d) (Q d) t ks z (h d) never) v (k n lives)
-refuses_behind_by P Q d end t ks e h k (left_out feature q m x f never) = left_out feature q m x (with_token t f) (λ d'. dead_token (P d') (Q d') t ks m (h d') (never d'))
+refuses_behind_by P Q d end t ks e h k (syntax q x never) = syntax q x (λ d'. leads_token (P d') (Q d') (λ ls. ⊥) t ks q (h d') (never d'))
+refuses_behind_by P Q d end t ks e h k (nested q z n x w never v lives) = nested q z n x w (leads_token (P d) (Q d) (λ ls. ⊥) t ks z (h d) never) v (k n lives)
 refuses_behind_by P Q d end t ks e h k (in_grammar feature q x f) = in_grammar feature q x (with_token_in_grammar t f)
 
 -- one deeper, what stands behind a token
 pub refuses_inside_by : {A B : Type 0} {D : Decision} {W V : Shown} (P : Phrase A) (Q : Phrase B) (d : ℕ) (end : Place) (t : Terminal) (ks : List Terminal) (e : ParseError) → ((d' : ℕ) (b : B) (ls r : List Terminal) → Q d' b (t ∷ ls) r → (i : ℕ) × (d' ≡ suc i) × Some_ P i ls) → Shows W d ks V (suc d) (t ∷ ks) → RefusesBy D W P d end ks e → RefusesBy D V Q (suc d) end (t ∷ ks) e
 refuses_inside_by P Q d end t ks e h k (out_of_memory x) = out_of_memory x
 refuses_inside_by P Q d end t ks e h k (syntax q x (never)) = syntax q x (λ d'. inside_any P Q d' t ks q (h d') never)
-refuses_inside_by P Q d end t ks e h k (nested q z n x w never v lives) = nested q z n x w (dead_token (P d) (Q (suc d)) t ks z (λ b ls r f. let u = h (suc d) b ls r f in subst (λ (i : ℕ). Some_ P i ls) (sym (suc_same u.1)) u.2) never) v (k n lives)
-refuses_inside_by P Q d end t ks e h k (left_out feature q m x f never) = left_out feature q m x (with_token t f) (λ d'. inside_any P Q d' t ks m (h d') never)
+refuses_inside_by P Q d end t ks e h k (nested q z n x w never v lives) = nested q z n x w (leads_token (P d) (Q (suc d)) (λ ls. ⊥) t ks z (λ b ls r f. let u = h (suc d) b ls r f in subst (λ (i : ℕ). Some_ P i ls) (sym (suc_same u.1)) u.2) never) v (k n lives)
 refuses_inside_by P Q d end t ks e h k (in_grammar feature q x f) = in_grammar feature q x (with_token_in_grammar t f)
 
 -- one deeper at the same place
 pub refuses_deeper_by : {A B : Type 0} {D : Decision} {W V : Shown} (P : Phrase A) (Q : Phrase B) (d : ℕ) (end : Place) (ks : List Terminal) (e : ParseError) → ((d' : ℕ) (b : B) (ls r : List Terminal) → SameHead ks ls → Q d' b ls r → (i : ℕ) × (d' ≡ suc i) × Some_ P i ls) → Shows W d ks V (suc d) ks → RefusesBy D W P d end ks e → RefusesBy D V Q (suc d) end ks e
 refuses_deeper_by P Q d end ks e h k (out_of_memory x) = out_of_memory x
-refuses_deeper_by P Q d end ks e h k (syntax q x never) = syntax q x (λ d'. deeper_any P Q d' ks q (h d') never)
-refuses_deeper_by P Q d end ks e h k (nested q z n x w never v lives) = nested q z n x w (dead_map (P d) (Q (suc d)) ks z (λ b ls r s f. let u = h (suc d) b ls r s f in subst (λ (i : ℕ). Some_ P i ls) (sym (suc_same u.1)) u.2) never) v (k n lives)
-refuses_deeper_by P Q d end ks e h k (left_out feature q m x f never) = left_out feature q m x f (λ d'. deeper_any P Q d' ks m (h d') never)
+refuses_deeper_by P Q d end ks e h k (syntax q x never) = syntax q x (λ d'. leads_deeper P Q (λ ls. ⊥) d' ks q (h d') never)
+refuses_deeper_by P Q d end ks e h k (nested q z n x w never v lives) = nested q z n x w (leads_map (P d) (Q (suc d)) (λ ls. ⊥) ks z (λ b ls r s f. let u = h (suc d) b ls r s f in subst (λ (i : ℕ). Some_ P i ls) (sym (suc_same u.1)) u.2) never) v (k n lives)
 refuses_deeper_by P Q d end ks e h k (in_grammar feature q x f) = in_grammar feature q x f
 
 -- the same place and depth
 pub refuses_map_by : {A B : Type 0} {D : Decision} {W V : Shown} (P : Phrase A) (Q : Phrase B) (d : ℕ) (end : Place) (ks : List Terminal) (e : ParseError) → ((d' : ℕ) (b : B) (ls r : List Terminal) → SameHead ks ls → Q d' b ls r → Some_ P d' ls) → Shows W d ks V d ks → RefusesBy D W P d end ks e → RefusesBy D V Q d end ks e
 refuses_map_by P Q d end ks e h k (out_of_memory x) = out_of_memory x
-refuses_map_by P Q d end ks e h k (syntax q x never) = syntax q x (λ d'. dead_map (P d') (Q d') ks q (h d') (never d'))
-refuses_map_by P Q d end ks e h k (nested q z n x w never v lives) = nested q z n x w (dead_map (P d) (Q d) ks z (h d) never) v (k n lives)
-refuses_map_by P Q d end ks e h k (left_out feature q m x f never) = left_out feature q m x f (λ d'. dead_map (P d') (Q d') ks m (h d') (never d'))
+refuses_map_by P Q d end ks e h k (syntax q x never) = syntax q x (λ d'. leads_map (P d') (Q d') (λ ls. ⊥) ks q (h d') (never d'))
+refuses_map_by P Q d end ks e h k (nested q z n x w never v lives) = nested q z n x w (leads_map (P d) (Q d) (λ ls. ⊥) ks z (h d) never) v (k n lives)
 refuses_map_by P Q d end ks e h k (in_grammar feature q x f) = in_grammar feature q x f
 
 pub refuses_first_by : {A B : Type 0} {D : Decision} {W V : Shown} (P : Phrase A) (Q : Phrase B) (d : ℕ) (end : Place) (ks : List Terminal) (e : ParseError) → Shows W d ks V d ks → RefusesBy D W P d end ks e → RefusesBy D V (Seq P Q) d end ks e
@@ -140,8 +135,8 @@ pub record Known {A : Type 0} (P : Phrase A) : Type 0 where
   pub same : (d d' : ℕ) (a a' : A) (ks m m' : List Terminal) → P d a ks m → P d' a' ks m' → m ≡ m'
   pub deepens : (d : ℕ) (a : A) (ks m : List Terminal) → P d a ks m → P (suc d) a ks m
 
-dead_after : {A B : Type 0} (P : Phrase A) (Q : Phrase B) (d d' : ℕ) (a : A) (ks m q : List Terminal) → Known P → P d a ks m → Dead (Q d') m q → Dead (Seq P Q d') ks q
-dead_after P Q d d' a ks m q known p (seen, e, never) =
+pub leads_after : {A B : Type 0} (P : Phrase A) (Q : Phrase B) (G : List Terminal → Type 0) (d d' : ℕ) (a : A) (ks m q : List Terminal) → Known P → P d a ks m → Leads (Q d') m q G → Leads (Seq P Q d') ks q G
+leads_after P Q G d d' a ks m q known p (seen, e, never) =
     let w = known.front d a ks m p in
     let s = cut_seen w.1 in (
       s.0 ++ seen,
@@ -178,12 +173,8 @@ alive_after P Q d a ks m q known p x =
 
 pub refuses_after_by : {A B : Type 0} {D : Decision} {W V : Shown} (P : Phrase A) (Q : Phrase B) (d : ℕ) (end : Place) (a : A) (ks m : List Terminal) (e : ParseError) → Known P → P d a ks m → Shows W d m V d ks → RefusesBy D W Q d end m e → RefusesBy D V (Seq P Q) d end ks e
 refuses_after_by P Q d end a ks m e known p k (out_of_memory x) = out_of_memory x
-refuses_after_by P Q d end a ks m e known p k (syntax q x never) = syntax q x (λ d'. dead_after P Q d d' a ks m q known p (never d'))
-refuses_after_by P Q d end a ks m e known p k (nested q z n x w never v lives) = nested q z n x w (dead_after P Q d d a ks m z known p never) v (k n lives)
-refuses_after_by P Q d end a ks m e known p k (left_out feature q z x f never) =
-    let w = known.front d a ks m p in
-    let s = cut_seen w.1 in
-    left_out feature q z x (with_front s.0 (w.2 ∙ s.1 m) f) (λ d'. dead_after P Q d d' a ks m z known p (never d'))
+refuses_after_by P Q d end a ks m e known p k (syntax q x never) = syntax q x (λ d'. leads_after P Q (λ ls. ⊥) d d' a ks m q known p (never d'))
+refuses_after_by P Q d end a ks m e known p k (nested q z n x w never v lives) = nested q z n x w (leads_after P Q (λ ls. ⊥) d d a ks m z known p never) v (k n lives)
 refuses_after_by P Q d end a ks m e known p k (in_grammar feature q x f) =
     let w = known.front d a ks m p in
     let s = cut_seen w.1 in
@@ -191,26 +182,6 @@ refuses_after_by P Q d end a ks m e known p k (in_grammar feature q x f) =
 
 pub refuses_after : {A B : Type 0} {D : Decision} (P : Phrase A) (Q : Phrase B) (d : ℕ) (end : Place) (a : A) (ks m : List Terminal) (e : ParseError) → Known P → P d a ks m → RefusesBy D (Alive Q) Q d end m e → RefusesBy D (Alive (Seq P Q)) (Seq P Q) d end ks e
 refuses_after P Q d end a ks m e known p h = refuses_after_by {W = Alive Q} {V = Alive (Seq P Q)} P Q d end a ks m e known p (λ q x. alive_after P Q d a ks m q known p x) h
-
--- ---- a form in place of rule 9
-
-no_sixty_one : {A : Type 0} → ◌≡◌ {A = ℕ} 61 9 → A
-no_sixty_one h = absurd (omega (arith, h))
-
-no_thirteen : {A : Type 0} → ◌≡◌ {A = ℕ} 13 9 → A
-no_thirteen h = absurd (omega (arith, h))
-
--- where rule 9 refuses the part, a form in its tokens may be told
-pub form_told : {A : Type 0} {D : Decision} {W : Shown} {P : Phrase A} {d : ℕ} {end : Place} {ks : List Terminal} {feature : ℕ} {q : List Terminal} {told : ParseError} (e : ParseError) → IsSyntax e → HasForm feature ks q → told ≡ refused_at 13 feature end q → RefusesBy D W P d end ks e → RefusesBy D W P d end ks told
-form_told e is f x (out_of_memory y) = absurd (subst IsSyntax y is)
-form_told {feature = feature} {q = q} e is f x (syntax m y never) = left_out feature q m x f never
-form_told e is f x (nested m z n y w never v lives) = no_sixty_one (subst IsSyntax y is)
-form_told e is f x (left_out n m z y g never) = no_thirteen (subst IsSyntax y is)
-form_told e is f x (in_grammar n m y g) = no_thirteen (subst IsSyntax y is)
-
-pub refuses_told : {A : Type 0} {D : Decision} {W : Shown} {P : Phrase A} {d : ℕ} {end : Place} {ks : List Terminal} {feature : ℕ} {q : List Terminal} {e told : ParseError} → HasForm feature ks q → Told feature end q e told → RefusesBy D W P d end ks e → RefusesBy D W P d end ks told
-refuses_told {D = D} {W = W} {P = P} {d = d} {end = end} {ks = ks} f (as_it_was x) h = subst (λ z. RefusesBy D W P d end ks z) (sym x) h
-refuses_told {e = e} f (by_form is x) h = form_told e is f x h
 
 -- ---- marks
 

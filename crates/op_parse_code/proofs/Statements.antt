@@ -1,5 +1,6 @@
 -- Statements that hold others.
 use Rattle.std.proofs.Common.{◌≡◌, ℕ, zero, suc, true, false, List, [], ◌∷◌, ◌++◌, Option, Some, None, refl, sym, ap, ◌∙◌, subst, arith}
+use Rattle.op_base.proofs.Tests.{none_of_some}
 use Rattle.op_base.specs.declared.place.Place.{Place}
 use Rattle.op_parse_code.proofs.Cuts.{cut_none, cut_one}
 use Rattle.op_parse_code.proofs.ExpressionKnown.{known_chain, known_mark}
@@ -365,7 +366,7 @@ do_it p = record {
   tokens = kind.Identifier [] at p ∷ kind.Do_ at p ∷ [];
   behind = [];
   part = (a_name p, (p, empty));
-  stands = λ i. (kind.Do_ at p ∷ [], (name_alone i p (kind.Do_ at p ∷ []), stop (a_name p) (kind.Do_ at p ∷ []) (refl, refl)), ([], refl, (is_empty, tt)));
+  stands = λ i. (kind.Do_ at p ∷ [], (name_alone (suc i) p (kind.Do_ at p ∷ []), stop (a_name p) (kind.Do_ at p ∷ []) (refl, refl)), ([], refl, (is_empty, tt)));
   fits = tt;
 }
 
@@ -412,7 +413,7 @@ to_it p = record {
   tokens = kind.To at p ∷ kind.Identifier [] at p ∷ kind.Do_ at p ∷ [];
   behind = [];
   part = (direction.To, (a_name p, (p, empty)));
-  stands = λ i. (kind.Identifier [] at p ∷ kind.Do_ at p ∷ [], (kind.To, p, refl, refl), (kind.Do_ at p ∷ [], (name_alone i p (kind.Do_ at p ∷ []), stop (a_name p) (kind.Do_ at p ∷ []) (refl, refl)), ([], refl, (is_empty, tt))));
+  stands = λ i. (kind.Identifier [] at p ∷ kind.Do_ at p ∷ [], (kind.To, p, refl, refl), (kind.Do_ at p ∷ [], (name_alone (suc i) p (kind.Do_ at p ∷ []), stop (a_name p) (kind.Do_ at p ∷ []) (refl, refl)), ([], refl, (is_empty, tt))));
   fits = (refl, refl);
 }
 
@@ -438,9 +439,6 @@ word_begins word.Inherited = refl
 
 -- ---- directions
 
-some_none : {A : Type 0} {x : A} → Some x ≡ None → ⊥
-some_none h = absurd cc
-
 no_way_at : (d : ℕ) (way : Direction) (ls r : List Terminal) → SameHead [] ls → SomeDirection d way ls r → ⊥
 no_way_at d way [] r s (k, p, e, h) = absurd cc
 no_way_at d way (t ∷ ls) r s f = s
@@ -450,7 +448,7 @@ direction_none d end e x = syntax [] x (λ d'. dead_here (SomeDirection d') [] (
 
 no_way : (k : TokenKind) (p : Position) (ks : List Terminal) → direction_of k ≡ None → (d : ℕ) (way : Direction) (ls r : List Terminal) → SameHead (k at p ∷ ks) ls → SomeDirection d way ls r → ⊥
 no_way k p ks h d way [] r s f = s
-no_way k p ks h d way (t ∷ ls) r s (k1, p1, e, h1) = some_none (sym h1 ∙ (ap direction_of (sym (kind_same (ap (λ z. z ∷ ls) s ∙ e))) ∙ h))
+no_way k p ks h d way (t ∷ ls) r s (k1, p1, e, h1) = none_of_some (sym h1 ∙ (ap direction_of (sym (kind_same (ap (λ z. z ∷ ls) s ∙ e))) ∙ h))
 
 pub direction_missing : (d : ℕ) (end : Place) (k : TokenKind) (p : Position) (ks : List Terminal) (e : ParseError) → direction_of k ≡ None → e ≡ refused_at 9 0 end (k at p ∷ ks) → Refuses SomeDirection d end (k at p ∷ ks) e
 direction_missing d end k p ks e h x = syntax (k at p ∷ ks) x (λ d'. dead_here (SomeDirection d') (k at p ∷ ks) (no_way k p ks h d'))

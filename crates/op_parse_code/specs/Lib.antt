@@ -1,4 +1,3 @@
-pub mod Form
 pub mod GrammarForm
 pub mod Opening
 pub mod Refusal

@@ -1,8 +1,7 @@
 -- What a refusal of a part says.
-use Rattle.std.specs.Prelude.{◌≡◌, ℕ, ◌≤◌, List, [], ◌∷◌, ◌++◌, Result, Ok, Err, codes}
+use Rattle.std.specs.Prelude.{◌≡◌, ℕ, ◌<◌, List, [], ◌∷◌, ◌++◌, Result, Ok, Err, codes}
 use Rattle.op_base.specs.declared.place.Place.{Place}
 use Rattle.op_parse_code.specs.GrammarForm.{HasGrammarForm}
-use Rattle.op_parse_code.specs.Form.{HasForm}
 use Rattle.op_parse_code.specs.declared.error.ParseError.{ParseError}
 use Rattle.op_parse_code.specs.declared.error.ParseError.TheVariants.{Refused, NoMemory}
 use Rattle.op_base.specs.Rule.{HasText}
@@ -21,12 +20,16 @@ SameHead [] (u ∷ us) = ⊥
 SameHead (t ∷ ts) [] = ⊥
 SameHead (t ∷ ts) (u ∷ us) = t ≡ u
 
+-- Where the tokens of ks before q, and a token like the first of q behind them, begin a part, this holds of the tokens from that one on.
+abbrev pub Leads : {A : Type 0} → (A → List Terminal → List Terminal → Type 0) → List Terminal → List Terminal → (List Terminal → Type 0) → Type 0
+Leads {A} P ks q G = (seen : List Terminal) × (ks ≡ seen ++ q) × ((ls : List Terminal) (a : A) (r : List Terminal) → SameHead q ls → P a (seen ++ ls) r → G ls)
+
 -- No part begins with the tokens of ks up to and including the first of q. Where q is empty, ks itself begins with none.
 abbrev pub Dead : {A : Type 0} → (A → List Terminal → List Terminal → Type 0) → List Terminal → List Terminal → Type 0
 Dead {A} P ks q = (seen : List Terminal) × (ks ≡ seen ++ q) × ((ls : List Terminal) (a : A) (r : List Terminal) → SameHead q ls → P a (seen ++ ls) r → ⊥)
 
--- Some part, of this depth or a greater one, begins with the tokens of ks up to and including the first of q: such a part stands
--- there where others follow that token.
+-- Some part of a greater depth begins with the tokens of ks up to and including the first of q: such a part stands there where others
+-- follow that token.
 pub record Alive {A : Type 0} (P : Phrase A) (d : ℕ) (ks q : List Terminal) : Type 0 where
   -- the tokens before q, and the first of q
   pub seen : List Terminal
@@ -36,7 +39,7 @@ pub record Alive {A : Type 0} (P : Phrase A) (d : ℕ) (ks q : List Terminal) : 
   pub to : q ≡ first ∷ rest
   -- the part: its depth, what it goes on with, and what stands behind it
   pub depth : ℕ
-  pub deep : d ≤ depth
+  pub deep : d < depth
   pub others : List Terminal
   pub behind : List Terminal
   pub part : A
@@ -69,13 +72,12 @@ abbrev pub Shown : Type 1
 Shown = ℕ → List Terminal → List Terminal → Type 0
 
 -- Why the tokens have no part at this depth: rule 9 where none begins so, whatever the depth, rule 61 where none of this
--- depth begins so and what is to be shown of the tokens before holds, rule 13 where a form that is left out stands in the tokens and none begins so, whatever the depth, or where one
--- stands in them that the grammar has. Want of memory may come at any time.
+-- depth begins so and what is to be shown of the tokens before holds, rule 13 where a form stands in them that the grammar has and the
+-- profile leaves out. Want of memory may come at any time.
 pub data RefusesBy {A : Type 0} (D : Decision) (W : Shown) (P : Phrase A) (d : ℕ) (end : Place) (ks : List Terminal) : ParseError → Type 0 where
   out_of_memory : {e : ParseError} → e ≡ NoMemory → RefusesBy D W P d end ks e
   syntax : {e : ParseError} (q : List Terminal) → e ≡ refused_at 9 0 end q → ((d' : ℕ) → Dead (P d') ks q) → RefusesBy D W P d end ks e
   nested : {e : ParseError} (q m w : List Terminal) → e ≡ refused_at 61 0 end q → D q m → Dead (P d) ks m → Decides w m → W d ks w → RefusesBy D W P d end ks e
-  left_out : {e : ParseError} (feature : ℕ) (q m : List Terminal) → e ≡ refused_at 13 feature end q → HasForm feature ks q → ((d' : ℕ) → Dead (P d') ks m) → RefusesBy D W P d end ks e
   in_grammar : {e : ParseError} (feature : ℕ) (q : List Terminal) → e ≡ refused_at 13 feature end q → HasGrammarForm feature ks q → RefusesBy D W P d end ks e
 
 -- The same of statements, expressions and their parts: it is shown that one of a greater depth begins so.

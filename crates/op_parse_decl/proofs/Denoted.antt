@@ -1,11 +1,11 @@
 -- An expression that names a type is that type.
 use Rattle.std.proofs.Common.{◌≡◌, ℕ, suc, List, [], ◌∷◌, ◌++◌, ◌<◌, Some, None, false, length, refl, sym, ◌∙◌, subst, arith}
+use Rattle.std.proofs.lemmas.Option.{same_Some}
 use Rattle.op_parse_code.specs.Whole.{Chain, NoMark}
 use Rattle.op_parse_code.specs.declared.mark.Mark.TheVariants as mark
 use Rattle.op_parse_decl.specs.Types.{SomeBounded, denoted}
 use Rattle.op_scan.specs.declared.token.TokenKind.{TokenKind}
 use Rattle.op_scan.specs.declared.token.TokenKind.TheVariants as kind
-use Rattle.op_tree.proofs.ExpressionUnique.{some_same}
 use Rattle.op_tree.specs.Denoter.{Denoter, named, string, enumeration}
 use Rattle.op_tree.specs.DenoterGrammar.{IsDenoter, is_named, is_string, is_enumeration}
 use Rattle.op_tree.specs.Ends.{IsNot, StopsDenoter, is_dot_dot, EndsChain}
@@ -65,10 +65,10 @@ ends_type : (e : Designator) {m : List Terminal} → EndsChain Additive (designa
 ends_type e {m = m} f none = record { operator = f.0; selector = f.1; range = no_range m none }
 
 pub denoted_whole : (d : ℕ) (a : Expression) (t : Denoter) (ks m : List Terminal) → Chain Additive d a ks m → NoMark mark.DotDot m → denoted a ≡ Some t → SomeBounded d t ks m
-denoted_whole d (designated (designator (named_root n) no_selectors)) t ks m f none h = subst (λ z. SomeBounded d z ks m) (some_same h) (of_name (by_simple refl f.0), ends_type (designator (named_root n) no_selectors) f.1 none)
-denoted_whole d (designated (designator (named_root u) (selectors (member n) no_selectors))) t ks m f none h = subst (λ z. SomeBounded d z ks m) (some_same h) (of_member (by_simple refl f.0), ends_type (designator (named_root u) (selectors (member n) no_selectors)) f.1 none)
-denoted_whole d (designated (designator (string_root p) no_selectors)) t ks m f none h = subst (λ z. SomeBounded d z ks m) (some_same h) (of_word (by_simple refl f.0), ends_type (designator (string_root p) no_selectors) f.1 none)
-denoted_whole d (designated (designator (bracketed p (designated (designator (named_root n) no_selectors))) no_selectors)) t ks m f none h = subst (λ z. SomeBounded d z ks m) (some_same h) (of_brackets (by_simple refl f.0), ends_type (designator (bracketed p (designated (designator (named_root n) no_selectors))) no_selectors) f.1 none)
+denoted_whole d (designated (designator (named_root n) no_selectors)) t ks m f none h = subst (λ z. SomeBounded d z ks m) (same_Some _ _ h) (of_name (by_simple refl f.0), ends_type (designator (named_root n) no_selectors) f.1 none)
+denoted_whole d (designated (designator (named_root u) (selectors (member n) no_selectors))) t ks m f none h = subst (λ z. SomeBounded d z ks m) (same_Some _ _ h) (of_member (by_simple refl f.0), ends_type (designator (named_root u) (selectors (member n) no_selectors)) f.1 none)
+denoted_whole d (designated (designator (string_root p) no_selectors)) t ks m f none h = subst (λ z. SomeBounded d z ks m) (same_Some _ _ h) (of_word (by_simple refl f.0), ends_type (designator (string_root p) no_selectors) f.1 none)
+denoted_whole d (designated (designator (bracketed p (designated (designator (named_root n) no_selectors))) no_selectors)) t ks m f none h = subst (λ z. SomeBounded d z ks m) (same_Some _ _ h) (of_brackets (by_simple refl f.0), ends_type (designator (bracketed p (designated (designator (named_root n) no_selectors))) no_selectors) f.1 none)
 denoted_whole d other t ks m f none h = absurd cc
 
 -- ---- the same of trees

@@ -2,20 +2,20 @@
 use Rattle.std.proofs.Common.{◌≡◌, ℕ, suc, Bool, true, false, List, [], ◌∷◌, ◌++◌, append_assoc, refl, sym, ap, ◌∙◌, subst, arith}
 use Rattle.op_base.specs.declared.place.Place.{Place}
 use Rattle.op_parse_code.proofs.Cuts.{cut_seen, same_behind}
-use Rattle.op_parse_code.proofs.Refusing.{Seq, dead_here, form_told, no_mark_refuses, with_token, with_token_in_grammar, with_front, with_front_in_grammar}
-use Rattle.op_parse_decl.proofs.Untold.{refuses_first, refuses_after}
 use Rattle.op_parse_code.proofs.ExpressionKnown.{known_mark}
-use Rattle.op_parse_code.specs.Form.{Form, GivesValue, HasForm, gives_by_assign, gives_by_equal, is_given_value}
-use Rattle.op_parse_code.specs.Refusal.{Phrase, SameHead, Dead, Refuses, out_of_memory, syntax, nested, left_out, in_grammar, decides_there, refused_at}
-use Rattle.op_parse_decl.specs.Refusal.{RefusesHere}
+use Rattle.op_parse_code.proofs.Living.{alive_here}
+use Rattle.op_parse_code.proofs.Refusing.{Seq, dead_here, no_mark_refuses, with_token_in_grammar, with_front_in_grammar, head_same, refuses_first_by, refuses_after_by}
+use Rattle.op_parse_code.specs.Refusal.{Phrase, SameHead, Dead, Refuses, out_of_memory, syntax, nested, in_grammar, decides_there, refused_at, Alive}
 use Rattle.op_parse_code.specs.Whole.{Marked, NoMark}
 use Rattle.op_parse_code.specs.declared.error.ParseError.{ParseError}
 use Rattle.op_parse_code.specs.declared.mark.Mark.TheVariants as mark
 use Rattle.op_parse_decl.proofs.Bounds.{no_list}
-use Rattle.op_parse_decl.proofs.Combining.{head_of}
+use Rattle.op_parse_decl.proofs.Refusals.{flat_mark, form_told}
+use Rattle.op_parse_decl.specs.Form.{Form, GivesValue, HasForm, gives_by_assign, gives_by_equal, is_given_value}
 use Rattle.op_parse_decl.specs.Known.{no_mark_by}
 use Rattle.op_parse_decl.specs.KnownTypes.{known_names}
 use Rattle.op_parse_decl.specs.Opening.{GivesAValue, lists_names}
+use Rattle.op_parse_decl.specs.Refusal.{RefusesHere, Never, RefusesPart, by_grammar, decides_in_code}
 use Rattle.op_parse_decl.specs.Types.{SomeNames, SomeBounded, NoMoreType}
 use Rattle.op_scan.specs.declared.token.TokenKind.{TokenKind}
 use Rattle.op_scan.specs.declared.token.TokenKind.TheVariants as kind
@@ -86,11 +86,14 @@ no_depth t p ks r f = none (bracketed 0 t p ks r f)
     none (lists i ns q z e g st) = no_zero z
     none (encloses a m g) = no_zero (bracket_depth g).1
 
-pub enumeration_too_deep : (d : ℕ) (end : Place) (ks : List Terminal) (e : ParseError) → lists_names ks ≡ true → d ≡ 0 → e ≡ refused_at 61 0 end ks → RefusesHere SomeBounded d end ks e
-enumeration_too_deep d end ks e h z x = subst (λ (w : ℕ). RefusesHere SomeBounded w end ks e) (sym z) (nested ks ks ks x decides_there (dead_here (SomeBounded 0) ks none) decides_there tt)
+pub enumeration_too_deep : (d : ℕ) (end : Place) (ks : List Terminal) (e : ParseError) → lists_names ks ≡ true → d ≡ 0 → e ≡ refused_at 61 0 end ks → RefusesPart SomeBounded d end ks e
+enumeration_too_deep d end ks e h z x = subst (λ (w : ℕ). RefusesPart SomeBounded w end ks e) (sym z) (by_grammar (nested ks ks ks x (decides_in_code decides_there) (dead_here (SomeBounded 0) ks none) decides_there (subst (λ y. Alive SomeBounded 0 y y) (sym form.is) lives)))
   where
     form : Listing ks
     form = listing ks h
+
+    lives : Alive SomeBounded 0 (kind.OpenParenthesis at form.open_at ∷ kind.Identifier form.text at form.name_at ∷ kind.Comma at form.comma_at ∷ form.after) (kind.OpenParenthesis at form.open_at ∷ kind.Identifier form.text at form.name_at ∷ kind.Comma at form.comma_at ∷ form.after)
+    lives = alive_here SomeBounded 0 1 (kind.OpenParenthesis at form.open_at) (kind.Identifier form.text at form.name_at ∷ kind.Comma at form.comma_at ∷ form.after) (kind.Identifier [] at form.open_at ∷ kind.CloseParenthesis at form.open_at ∷ []) [] (enumeration form.open_at (name [] form.open_at ∷ [])) (omega arith) (is_enumeration (are_bracketed_names (are_one_name is_name)), record { operator = tt; selector = tt; range = tt })
 
     none : (t : Denoter) (ls r : List Terminal) → SameHead ks ls → SomeBounded 0 t ls r → ⊥
     none t [] r s f = absurd (subst (λ z. SameHead z []) form.is s)
@@ -122,23 +125,22 @@ dead_names d p rest q h (seen, e, never) = (kind.OpenParenthesis at p ∷ seen, 
       where
         by_seen : (seen q ls : List Terminal) → ((xs : List Terminal) (ns : List Name) (r : List Terminal) → SameHead q xs → SomeNames d ns (seen ++ xs) r → ⊥) → SameHead q ls → seen ++ q ≡ a_name ∷ kind.Comma at form.comma_at ∷ form.after → IsChain Additive d a (kind.OpenParenthesis at p ∷ (seen ++ ls)) m → ⊥
         by_seen [] q ls never s is g = never (a_name ∷ []) _ [] (subst (λ z. SameHead z (a_name ∷ [])) (sym is) refl) (one d)
-        by_seen (x ∷ []) q ls never s is g = never (kind.Comma at form.comma_at ∷ a_name ∷ []) _ [] (subst (λ z. SameHead z (kind.Comma at form.comma_at ∷ a_name ∷ [])) (sym (ap behind is)) refl) (subst (λ (z : Terminal). SomeNames d (name form.text form.name_at ∷ name form.text form.name_at ∷ []) (z ∷ kind.Comma at form.comma_at ∷ a_name ∷ []) []) (sym (head_of is)) (are_names is_name (one d).0, (one d).1))
-        by_seen (x ∷ y ∷ seen) q ls never s is g = no_list form.text p form.name_at form.comma_at (seen ++ ls) (kind.OpenParenthesis at p ∷ x ∷ y ∷ (seen ++ ls)) m g (ap (λ z. kind.OpenParenthesis at p ∷ z ∷ y ∷ (seen ++ ls)) (head_of is) ∙ ap (λ z. kind.OpenParenthesis at p ∷ a_name ∷ z ∷ (seen ++ ls)) (head_of (ap behind is)))
+        by_seen (x ∷ []) q ls never s is g = never (kind.Comma at form.comma_at ∷ a_name ∷ []) _ [] (subst (λ z. SameHead z (kind.Comma at form.comma_at ∷ a_name ∷ [])) (sym (ap behind is)) refl) (subst (λ (z : Terminal). SomeNames d (name form.text form.name_at ∷ name form.text form.name_at ∷ []) (z ∷ kind.Comma at form.comma_at ∷ a_name ∷ []) []) (sym (head_same is)) (are_names is_name (one d).0, (one d).1))
+        by_seen (x ∷ y ∷ seen) q ls never s is g = no_list form.text p form.name_at form.comma_at (seen ++ ls) (kind.OpenParenthesis at p ∷ x ∷ y ∷ (seen ++ ls)) m g (ap (λ z. kind.OpenParenthesis at p ∷ z ∷ y ∷ (seen ++ ls)) (head_same is) ∙ ap (λ z. kind.OpenParenthesis at p ∷ a_name ∷ z ∷ (seen ++ ls)) (head_same (ap behind is)))
 
-in_brackets : (d : ℕ) (end : Place) (p : Position) (rest : List Terminal) (e : ParseError) → lists_names (kind.OpenParenthesis at p ∷ rest) ≡ true → RefusesHere SomeNames d end rest e → RefusesHere SomeBounded d end (kind.OpenParenthesis at p ∷ rest) e
-in_brackets d end p rest e h (out_of_memory x) = out_of_memory x
-in_brackets d end p rest e h (syntax q x never) = syntax q x (λ d'. dead_names d' p rest q h (never d'))
-in_brackets d end p rest e h (nested q z n x w never v t) = nested q z n x w (dead_names d p rest z h never) v tt
-in_brackets d end p rest e h (left_out feature q m x f never) = left_out feature q m x (with_token (kind.OpenParenthesis at p) f) (λ d'. dead_names d' p rest m h (never d'))
-in_brackets d end p rest e h (in_grammar feature q x f) = in_grammar feature q x (with_token_in_grammar (kind.OpenParenthesis at p) f)
+in_brackets : (d : ℕ) (end : Place) (p : Position) (rest : List Terminal) (e : ParseError) → lists_names (kind.OpenParenthesis at p ∷ rest) ≡ true → RefusesHere SomeNames d end rest e → RefusesPart SomeBounded d end (kind.OpenParenthesis at p ∷ rest) e
+in_brackets d end p rest e h (out_of_memory x) = by_grammar (out_of_memory x)
+in_brackets d end p rest e h (syntax q x never) = by_grammar (syntax q x (λ d'. dead_names d' p rest q h (never d')))
+in_brackets d end p rest e h (nested q z n x w never v t) = absurd t
+in_brackets d end p rest e h (in_grammar feature q x f) = by_grammar (in_grammar feature q x (with_token_in_grammar (kind.OpenParenthesis at p) f))
 
 open_kind : (k : TokenKind) (p : Position) (rest : List Terminal) → lists_names (k at p ∷ rest) ≡ true → k at p ∷ rest ≡ kind.OpenParenthesis at p ∷ rest
-open_kind k p rest h = let f = listing (k at p ∷ rest) h in ap (λ z. z at p ∷ rest) (ap (λ z. z.kind) (head_of f.is))
+open_kind k p rest h = let f = listing (k at p ∷ rest) h in ap (λ z. z at p ∷ rest) (ap (λ z. z.kind) (head_same f.is))
 
-pub enumeration_names : (d : ℕ) (end : Place) (k : TokenKind) (p : Position) (rest : List Terminal) (e : ParseError) → lists_names (k at p ∷ rest) ≡ true → RefusesHere SomeNames d end rest e → RefusesHere SomeBounded d end (k at p ∷ rest) e
+pub enumeration_names : (d : ℕ) (end : Place) (k : TokenKind) (p : Position) (rest : List Terminal) (e : ParseError) → lists_names (k at p ∷ rest) ≡ true → RefusesHere SomeNames d end rest e → RefusesPart SomeBounded d end (k at p ∷ rest) e
 enumeration_names d end k p rest e h f =
     let is = open_kind k p rest h in
-    subst (λ z. RefusesHere SomeBounded d end z e) (sym is) (in_brackets d end p rest e (subst (λ (z : List Terminal). lists_names z ≡ true) is h) f)
+    subst (λ z. RefusesPart SomeBounded d end z e) (sym is) (in_brackets d end p rest e (subst (λ (z : List Terminal). lists_names z ≡ true) is h) f)
 
 pub enumeration_whole : (d i : ℕ) (k : TokenKind) (p q : Position) (ns : List Name) (rest m r : List Terminal) → lists_names (k at p ∷ rest) ≡ true → d ≡ suc i → SomeNames d ns rest m → m ≡ kind.CloseParenthesis at q ∷ r → StopsDenoter r → SomeBounded d (enumeration p ns) (k at p ∷ rest) r
 enumeration_whole d i k p q ns rest m r h z f c st = subst (λ w. SomeBounded d (enumeration p ns) w r) (sym (open_kind k p rest h)) (subst (λ (w : ℕ). SomeBounded w (enumeration p ns) (kind.OpenParenthesis at p ∷ rest) r) (sym z) (is_enumeration (are_bracketed_names (subst (λ w. AreNames ns rest w) c f.0)), st))
@@ -178,29 +180,25 @@ dead_close d d' p ns rest m q h f (seen, e, never) =
         let l = is_list (subst (λ x. AreNames x front (seen ++ ls)) n.3 whole.0) in
         no_list l.0 p l.1 l.2 l.3 (kind.OpenParenthesis at p ∷ front) z b (ap (λ x. kind.OpenParenthesis at p ∷ x) l.4)
 
-in_list : (d : ℕ) (end : Place) (p : Position) (ns : List Name) (rest m : List Terminal) (e : ParseError) → lists_names (kind.OpenParenthesis at p ∷ rest) ≡ true → SomeNames d ns rest m → RefusesHere Close d end m e → RefusesHere SomeBounded d end (kind.OpenParenthesis at p ∷ rest) e
-in_list d end p ns rest m e h f (out_of_memory x) = out_of_memory x
-in_list d end p ns rest m e h f (syntax q x never) = syntax q x (λ d'. dead_close d d' p ns rest m q h f (never d'))
-in_list d end p ns rest m e h f (nested q z n x w never v t) = nested q z n x w (dead_close d d p ns rest m z h f never) v tt
-in_list d end p ns rest m e h f (left_out feature q z x g never) =
-    let w = known_names.front d ns rest m f in
-    let s = cut_seen w.1 in
-    left_out feature q z x (with_token (kind.OpenParenthesis at p) (with_front s.0 (w.2 ∙ s.1 m) g)) (λ d'. dead_close d d' p ns rest m z h f (never d'))
+in_list : (d : ℕ) (end : Place) (p : Position) (ns : List Name) (rest m : List Terminal) (e : ParseError) → lists_names (kind.OpenParenthesis at p ∷ rest) ≡ true → SomeNames d ns rest m → RefusesHere Close d end m e → RefusesPart SomeBounded d end (kind.OpenParenthesis at p ∷ rest) e
+in_list d end p ns rest m e h f (out_of_memory x) = by_grammar (out_of_memory x)
+in_list d end p ns rest m e h f (syntax q x never) = by_grammar (syntax q x (λ d'. dead_close d d' p ns rest m q h f (never d')))
+in_list d end p ns rest m e h f (nested q z n x w never v t) = absurd t
 in_list d end p ns rest m e h f (in_grammar feature q x g) =
     let w = known_names.front d ns rest m f in
     let s = cut_seen w.1 in
-    in_grammar feature q x (with_token_in_grammar (kind.OpenParenthesis at p) (with_front_in_grammar s.0 (w.2 ∙ s.1 m) g))
+    by_grammar (in_grammar feature q x (with_token_in_grammar (kind.OpenParenthesis at p) (with_front_in_grammar s.0 (w.2 ∙ s.1 m) g)))
 
-behind_names : (d : ℕ) (end : Place) (k : TokenKind) (p : Position) (ns : List Name) (rest m : List Terminal) (e : ParseError) → lists_names (k at p ∷ rest) ≡ true → SomeNames d ns rest m → RefusesHere Close d end m e → RefusesHere SomeBounded d end (k at p ∷ rest) e
+behind_names : (d : ℕ) (end : Place) (k : TokenKind) (p : Position) (ns : List Name) (rest m : List Terminal) (e : ParseError) → lists_names (k at p ∷ rest) ≡ true → SomeNames d ns rest m → RefusesHere Close d end m e → RefusesPart SomeBounded d end (k at p ∷ rest) e
 behind_names d end k p ns rest m e h f g =
     let is = open_kind k p rest h in
-    subst (λ z. RefusesHere SomeBounded d end z e) (sym is) (in_list d end p ns rest m e (subst (λ (z : List Terminal). lists_names z ≡ true) is h) f g)
+    subst (λ z. RefusesPart SomeBounded d end z e) (sym is) (in_list d end p ns rest m e (subst (λ (z : List Terminal). lists_names z ≡ true) is h) f g)
 
-pub enumeration_open : (d : ℕ) (end : Place) (k : TokenKind) (p : Position) (ns : List Name) (rest m : List Terminal) (e : ParseError) → lists_names (k at p ∷ rest) ≡ true → SomeNames d ns rest m → Refuses (Marked mark.CloseParenthesis) d end m e → RefusesHere SomeBounded d end (k at p ∷ rest) e
-enumeration_open d end k p ns rest m e h f g = behind_names d end k p ns rest m e h f (refuses_first (Marked mark.CloseParenthesis) NoMoreType d end m e g)
+pub enumeration_open : (d : ℕ) (end : Place) (k : TokenKind) (p : Position) (ns : List Name) (rest m : List Terminal) (e : ParseError) → lists_names (k at p ∷ rest) ≡ true → SomeNames d ns rest m → Refuses (Marked mark.CloseParenthesis) d end m e → RefusesPart SomeBounded d end (k at p ∷ rest) e
+enumeration_open d end k p ns rest m e h f g = behind_names d end k p ns rest m e h f (refuses_first_by {W = Never} (Marked mark.CloseParenthesis) NoMoreType d end m e (λ q x. absurd x) (flat_mark mark.CloseParenthesis g))
 
-pub enumeration_goes_on : (d : ℕ) (end : Place) (k : TokenKind) (p q : Position) (ns : List Name) (rest m r : List Terminal) (e : ParseError) → lists_names (k at p ∷ rest) ≡ true → SomeNames d ns rest m → m ≡ kind.CloseParenthesis at q ∷ r → RefusesHere NoMoreType d end r e → RefusesHere SomeBounded d end (k at p ∷ rest) e
-enumeration_goes_on d end k p q ns rest m r e h f is g = behind_names d end k p ns rest m e h f (refuses_after (Marked mark.CloseParenthesis) NoMoreType d end q m r e (known_mark mark.CloseParenthesis) is g)
+pub enumeration_goes_on : (d : ℕ) (end : Place) (k : TokenKind) (p q : Position) (ns : List Name) (rest m r : List Terminal) (e : ParseError) → lists_names (k at p ∷ rest) ≡ true → SomeNames d ns rest m → m ≡ kind.CloseParenthesis at q ∷ r → RefusesHere NoMoreType d end r e → RefusesPart SomeBounded d end (k at p ∷ rest) e
+enumeration_goes_on d end k p q ns rest m r e h f is g = behind_names d end k p ns rest m e h f (refuses_after_by {W = Never} (Marked mark.CloseParenthesis) NoMoreType d end q m r e (known_mark mark.CloseParenthesis) is (λ q x. absurd x) g)
 
 -- ---- a value with a number
 
@@ -212,11 +210,11 @@ gives_no_close : {k : TokenKind} → GivesValue k → is_close k ≡ false
 gives_no_close gives_by_equal = refl
 gives_no_close gives_by_assign = refl
 
-pub enumeration_form : (d : ℕ) (end : Place) (k : TokenKind) (p : Position) (ns : List Name) (rest m : List Terminal) (e : ParseError) → lists_names (k at p ∷ rest) ≡ true → SomeNames d ns rest m → GivesAValue m → e ≡ refused_at 13 31 end m → RefusesHere SomeBounded d end (k at p ∷ rest) e
-enumeration_form d end k p ns rest m e h f (k', q, r, is, g) x = form_told (refused_at 9 0 end m) refl form x (enumeration_open d end k p ns rest m (refused_at 9 0 end m) h f (no_mark_refuses mark.CloseParenthesis d end m (refused_at 9 0 end m) none refl))
+pub enumeration_form : (d : ℕ) (end : Place) (k : TokenKind) (p : Position) (ns : List Name) (rest m : List Terminal) (e : ParseError) → lists_names (k at p ∷ rest) ≡ true → SomeNames d ns rest m → GivesAValue m → e ≡ refused_at 13 31 end m → RefusesPart SomeBounded d end (k at p ∷ rest) e
+enumeration_form d end k p ns rest m e h f (k', q, r, is, g) x = form_told (refused_at 9 0 end m) refl refl form x (enumeration_open d end k p ns rest m (refused_at 9 0 end m) h f (no_mark_refuses mark.CloseParenthesis d end m (refused_at 9 0 end m) none refl))
   where
     none : NoMark mark.CloseParenthesis m
     none = subst (NoMark mark.CloseParenthesis) (sym is) (no_mark_by mark.CloseParenthesis is_close refl (gives_no_close g))
 
-    form : HasForm 31 (k at p ∷ rest) m
-    form = ([], k at p ∷ rest, refl, subst (λ z. Form 31 z m) (sym (open_kind k p rest h)) (subst (λ z. Form 31 (kind.OpenParenthesis at p ∷ rest) z) (sym is) (is_given_value g (subst (λ z. AreNames ns rest z) is f.0))))
+    form : HasForm 31 (k at p ∷ rest) m m
+    form = ([], k at p ∷ rest, refl, subst (λ z. Form 31 z m m) (sym (open_kind k p rest h)) (subst (λ z. Form 31 (kind.OpenParenthesis at p ∷ rest) z z) (sym is) (is_given_value g (subst (λ z. AreNames ns rest z) is f.0))))

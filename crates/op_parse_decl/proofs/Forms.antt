@@ -3,10 +3,10 @@ use Rattle.std.proofs.Common.{◌≡◌, ℕ, Bool, true, false, ◌||◌, ◌&&
 use Rattle.op_base.specs.declared.place.Place.{Place}
 use Rattle.op_parse_code.proofs.Names.{named_at}
 use Rattle.op_parse_code.proofs.Refusing.{dead_here}
-use Rattle.op_parse_code.specs.Form.{Form, HasForm, is_short_string, is_variant, is_record_method, is_given_value}
+use Rattle.op_parse_decl.specs.Form.{Form, TypeForm, is_short_string, is_variant, is_record_method, is_value_in_type}
 use Rattle.op_parse_code.specs.Opening.{is_identifier, spelled}
-use Rattle.op_parse_code.specs.Refusal.{SameHead, syntax, refused_at}
-use Rattle.op_parse_decl.specs.Refusal.{RefusesHere}
+use Rattle.op_parse_code.specs.Refusal.{SameHead, syntax, refused_at, place_at, Told, as_it_was as told_as_was, by_form as told_by_form}
+use Rattle.op_parse_decl.specs.Refusal.{RefusesHere, StandsAt, TellsForm, as_it_was, by_form}
 use Rattle.op_parse_code.specs.Whole.{NoMark}
 use Rattle.op_parse_code.specs.declared.error.ParseError.{ParseError}
 use Rattle.op_parse_code.specs.declared.mark.Mark.TheVariants as mark
@@ -24,11 +24,11 @@ use Rattle.op_tree.specs.declared.heading.RoutineKind.{RoutineKind}
 use Rattle.op_tree.specs.declared.operator.Level.TheVariants.{Additive}
 use Rattle.op_tree.specs.declared.position.Position.{Position}
 
-pub short_string_form : (k : TokenKind) (p q : Position) (m r : List Terminal) → k ≡ kind.String → m ≡ kind.OpenBracket at q ∷ r → HasForm 3 (k at p ∷ m) (k at p ∷ m)
-short_string_form k p q m r h is = ([], k at p ∷ m, refl, subst (λ z. Form 3 (z at p ∷ m) (z at p ∷ m)) (sym h) (subst (λ z. Form 3 (kind.String at p ∷ z) (kind.String at p ∷ z)) (sym is) is_short_string))
+pub short_string_form : (k : TokenKind) (p q : Position) (m r : List Terminal) → k ≡ kind.String → m ≡ kind.OpenBracket at q ∷ r → TypeForm 3 (k at p ∷ m) (k at p ∷ m)
+short_string_form k p q m r h is = subst (λ z. TypeForm 3 (z at p ∷ m) (z at p ∷ m)) (sym h) (subst (λ z. TypeForm 3 (kind.String at p ∷ z) (kind.String at p ∷ z)) (sym is) is_short_string)
 
 pub variant_form : (p : Position) (r : List Terminal) (k : TokenKind) → k ≡ kind.Case → IsFormOfRecord 9 (k at p ∷ r)
-variant_form p r k h = (subst (λ (z : TokenKind). is_identifier z ≡ false) (sym h) refl, λ d fs q ks f. subst (λ z. Form 9 (kind.Record at q ∷ ks) (z at p ∷ r)) (sym h) (is_variant (subst (λ z. AreFieldLists d fs ks (z at p ∷ r)) h f)))
+variant_form p r k h = (subst (λ (z : TokenKind). is_identifier z ≡ false) (sym h) refl, λ d fs q ks f. subst (λ z. Form 9 (kind.Record at q ∷ ks) (z at p ∷ r) (z at p ∷ r)) (sym h) (is_variant (subst (λ z. AreFieldLists d fs ks (z at p ∷ r)) h f)))
 
 routine_no_name : (k : TokenKind) (sort : RoutineKind) → routine_kind_of k ≡ Some sort → is_identifier k ≡ false
 routine_no_name (kind.Identifier text) sort h = absurd cc
@@ -98,6 +98,10 @@ lists_no_comma ks k p q m r e e1 h = subst (λ (z : List Terminal). lists_names 
 pub lists_some : (ks : List Terminal) (k : TokenKind) (p q u : Position) (m r z : List Terminal) → ks ≡ kind.OpenParenthesis at p ∷ m → m ≡ k at q ∷ r → is_identifier k ≡ true → r ≡ kind.Comma at u ∷ z → lists_names ks ≡ true
 lists_some ks k p q u m r z e e1 h e2 = subst (λ (z : List Terminal). lists_names z ≡ true) (sym (e ∙ ap (λ z. kind.OpenParenthesis at p ∷ z) (e1 ∙ ap (λ z. k at q ∷ z) e2))) (ap (λ b. b && true) h)
 
-pub given_form : (ks : List Terminal) (k : TokenKind) (p q : Position) (m r : List Terminal) → ks ≡ kind.OpenParenthesis at p ∷ m → m ≡ k at q ∷ r → is_identifier k ≡ true → GivesAValue r → HasForm 31 ks r
-given_form ks k p q m r e e1 h (k', u, z, is, g) =
-    ([], ks, refl, subst (λ z. Form 31 z r) (sym (e ∙ ap (λ z. kind.OpenParenthesis at p ∷ z) e1)) (subst (λ w. Form 31 (kind.OpenParenthesis at p ∷ k at q ∷ r) w) (sym is) (is_given_value g (are_one_name (subst (λ w. IsName (name (spelled k) q) (k at q ∷ r) w) is (named_at k q r h))))))
+pub given_form : (ks : List Terminal) (k : TokenKind) (p q : Position) (m r : List Terminal) → ks ≡ kind.OpenParenthesis at p ∷ m → m ≡ k at q ∷ r → is_identifier k ≡ true → GivesAValue r → TypeForm 31 ks r
+given_form ks k p q m r e e1 h (k', u, z, is, g) = subst (λ z. TypeForm 31 z r) (sym (e ∙ ap (λ z. kind.OpenParenthesis at p ∷ z) e1)) (subst (λ w. TypeForm 31 (kind.OpenParenthesis at p ∷ k at q ∷ r) w) (sym is) (is_value_in_type g (subst (λ w. IsName (name (spelled k) q) (k at q ∷ r) w) is (named_at k q r h))))
+
+-- a form that is told where the refusal stands there
+pub told_there : {feature : ℕ} {end : Place} {q m : List Terminal} {e told : ParseError} → Told feature end q e told → StandsAt e (place_at end m) → TellsForm feature end q m e told
+told_there (told_as_was x) there = as_it_was x
+told_there (told_by_form is x) there = by_form is there x

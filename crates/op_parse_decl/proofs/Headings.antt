@@ -4,21 +4,22 @@ use Rattle.op_base.specs.declared.place.Place.{Place}
 use Rattle.op_parse_code.proofs.Cuts.{same_behind, same_not}
 use Rattle.op_parse_code.proofs.Factors.{same_begins}
 use Rattle.op_parse_code.proofs.Names.{word_kind}
-use Rattle.op_parse_code.proofs.Refusing.{Some_, dead_here, no_mark_same}
-use Rattle.op_parse_decl.proofs.Untold.{refuses_behind, refuses_map}
-use Rattle.op_parse_code.specs.Form.{Form, HasForm, is_array_of_const, is_default}
+use Rattle.op_parse_code.proofs.Refusing.{Some_, dead_here, head_same, no_mark_same, Seq, refuses_after_by, refuses_behind_by, refuses_first_by, refuses_map_by}
 use Rattle.op_parse_code.specs.Opening.{is_identifier, is_word}
-use Rattle.op_parse_code.specs.Refusal.{Phrase, SameHead, Dead, out_of_memory, syntax, nested, left_out, in_grammar, refused_at}
-use Rattle.op_parse_decl.proofs.Combining.{refuses_part, same_sym, head_of}
-use Rattle.op_parse_decl.specs.Refusal.{RefusesPart, RefusesHere}
-use Rattle.op_parse_code.specs.Whole.{NoMark}
+use Rattle.op_parse_code.specs.Refusal.{Phrase, SameHead, Dead, out_of_memory, syntax, nested, in_grammar, refused_at, Refuses}
+use Rattle.op_parse_code.specs.Whole.{NoMark, Marked}
 use Rattle.op_parse_code.specs.declared.error.ParseError.{ParseError}
 use Rattle.op_parse_code.specs.declared.mark.Mark.TheVariants as mark
+use Rattle.op_parse_decl.proofs.Combining.{same_sym}
+use Rattle.op_parse_decl.proofs.Refusals.{flat_mark, refuses_behind, refuses_map, refuses_part}
 use Rattle.op_parse_decl.specs.Combined.{Both, both, Stands, stands, Then, then_, nothing, HasMark, mark_ahead, is_ahead, not_ahead, TellsBehind}
+use Rattle.op_parse_decl.specs.Form.{Form, HasForm, is_array_of_const, is_default}
 use Rattle.op_parse_decl.specs.HeadingParts.{PartFront, parameters_out}
 use Rattle.op_parse_decl.specs.Headings.{IsRoutineKind, is_routine_kind, NoOut, SomeMode, SomeModed, some_moded, SomeParameterType, is_string as is_string_word}
 use Rattle.op_parse_decl.specs.Known.{no_mark_by}
+use Rattle.op_parse_decl.specs.KnownTypes.{known_names}
 use Rattle.op_parse_decl.specs.Properties.{word_is}
+use Rattle.op_parse_decl.specs.Refusal.{RefusesHere, Never, RefusesParts, by_grammar}
 use Rattle.op_parse_decl.specs.Types.{NoDot, SomeNames, SomeQualified}
 use Rattle.op_scan.specs.declared.token.TokenKind.{TokenKind}
 use Rattle.op_scan.specs.declared.token.TokenKind.TheVariants as kind
@@ -50,18 +51,14 @@ no_kind d sort (t ∷ ks) ls r h s (is_routine_kind e) = nothing_some (sym h ∙
     nothing_some : {x : RoutineKind} → None ≡ Some x → ⊥
     nothing_some g = absurd cc
 
-pub kind_refused : (d : ℕ) (end : Place) (ks : List Terminal) (e : ParseError) → kind_ahead ks ≡ None → e ≡ refused_at 9 0 end ks → RefusesPart IsRoutineKind d end ks e
-kind_refused d end ks e h x = syntax ks x (λ d'. dead_here (IsRoutineKind d') ks (λ sort ls r s f. no_kind d' sort ks ls r h s f))
+pub kind_refused : (d : ℕ) (end : Place) (ks : List Terminal) (e : ParseError) → kind_ahead ks ≡ None → e ≡ refused_at 9 0 end ks → RefusesParts Never IsRoutineKind d end ks e
+kind_refused d end ks e h x = by_grammar (syntax ks x (λ d'. dead_here (IsRoutineKind d') ks (λ sort ls r s f. no_kind d' sort ks ls r h s f)))
 
 -- ---- how parameters are passed
 
 -- names, and the colon behind them
 abbrev Named : Phrase (Both (List Name) (Unit {0}))
 Named = Then SomeNames (Stands mark.Colon)
-
-begin_names : {ns : List Name} {ks r : List Terminal} → AreNames ns ks r → Begins is_identifier ks
-begin_names (are_one_name is_name) = refl
-begin_names (are_names is_name n) = refl
 
 named : (d : ℕ) {ns : List Name} {p : Position} {ks r : List Terminal} → AreNames ns ks (kind.Colon at p ∷ r) → Some_ Named d ks
 named d {ns = ns} {r = r} n = (both ns tt, r, then_ (n, no_mark_by mark.Comma is_comma refl refl) stands)
@@ -92,9 +89,9 @@ same_first (u ∷ q) t ks ls s = s
 no_out : (d : ℕ) (ks q seen ls : List Terminal) (out : List ℕ) (p : Position) (ns : List Name) (z r : List Terminal) → NoOut ks → ks ≡ seen ++ q → ((xs : List Terminal) (a : Both (List Name) (Unit {0})) (y : List Terminal) → SameHead q xs → Named d a (seen ++ xs) y → ⊥) → SameHead q ls → kind.Identifier out at p ∷ z ≡ seen ++ ls → IsWord (codes "out") out → AreNames ns z r → ⊥
 no_out d ks q [] ls out p ns z r none e never s is w n = never (kind.Identifier out at p ∷ kind.Colon at p ∷ []) (both (name out p ∷ []) tt) [] (same_first q (kind.Identifier out at p) z (kind.Colon at p ∷ []) (subst (SameHead q) (sym is) s)) (then_ (are_one_name is_name, no_mark_by mark.Comma is_comma refl refl) stands)
 no_out d ks q (t ∷ seen) ls out p ns z r none e never s is w n =
-    let first : kind.Identifier out at p ∷ (seen ++ q) ≡ ks = ap (λ y. y ∷ (seen ++ q)) (head_of is) ∙ sym e in
+    let first : kind.Identifier out at p ∷ (seen ++ q) ≡ ks = ap (λ y. y ∷ (seen ++ q)) (head_same is) ∙ sym e in
     let same : SameHead (seen ++ q) z = subst (SameHead (seen ++ q)) (sym (ap behind is)) (same_behind seen q ls s) in
-    none (seen ++ q) (subst (λ y. IsMode mode.Out y (seen ++ q)) first (by_out w)) (same_begins is_identifier z (seen ++ q) (same_sym (seen ++ q) z same) (begin_names n))
+    none (seen ++ q) (subst (λ y. IsMode mode.Out y (seen ++ q)) first (by_out w)) (same_begins is_identifier z (seen ++ q) (same_sym (seen ++ q) z same) (names_begin n))
 
 no_value : (d : ℕ) (ks q seen ls all : List Terminal) (a : Both ParameterMode (List Name)) (r : List Terminal) → SomeMode mode.Value ks ks → ks ≡ seen ++ q → ((xs : List Terminal) (a : Both (List Name) (Unit {0})) (y : List Terminal) → SameHead q xs → Named d a (seen ++ xs) y → ⊥) → SameHead q ls → all ≡ seen ++ ls → SameHead ks all → SomeModed d a all r → ⊥
 no_value d ks q seen ls all a r m e never s is same (some_moded by_value n) = let w = named d n in never ls w.0 w.1 s (subst (λ z. Named d w.0 z w.1) is w.2)
@@ -105,18 +102,26 @@ no_value d ks q seen ls all a r m e never s is same (some_moded (by_out {out = o
 dead_value : (d : ℕ) (ks q : List Terminal) → SomeMode mode.Value ks ks → Dead (Named d) ks q → Dead (SomeModed d) ks q
 dead_value d ks q m (seen, e, never) = (seen, e, λ ls a r s x. no_value d ks q seen ls (seen ++ ls) a r m e never s refl (subst (λ z. SameHead z (seen ++ ls)) (sym e) (same_behind seen q ls s)) x)
 
-by_value_refused : (d : ℕ) (end : Place) (ks : List Terminal) (e : ParseError) → SomeMode mode.Value ks ks → RefusesPart Named d end ks e → RefusesPart SomeModed d end ks e
+by_value_refused : (d : ℕ) (end : Place) (ks : List Terminal) (e : ParseError) → SomeMode mode.Value ks ks → RefusesHere Named d end ks e → RefusesHere SomeModed d end ks e
 by_value_refused d end ks e m (out_of_memory x) = out_of_memory x
 by_value_refused d end ks e m (syntax q x never) = syntax q x (λ d'. dead_value d' ks q m (never d'))
-by_value_refused d end ks e m (nested q z n x w never v t) = nested q z n x w (dead_value d ks z m never) v tt
-by_value_refused d end ks e m (left_out feature q z x f never) = left_out feature q z x f (λ d'. dead_value d' ks z m (never d'))
+by_value_refused d end ks e m (nested q z n x w never v t) = absurd t
 by_value_refused d end ks e m (in_grammar feature q x f) = in_grammar feature q x f
 
-pub moded_refused : (m : ParameterMode) (d : ℕ) (end : Place) (ks z : List Terminal) (e : ParseError) → SomeMode m ks z → RefusesPart Named d end z e → RefusesPart SomeModed d end ks e
-moded_refused mode.Value d end ks z e m h = by_value_refused d end ks e (refl, m.1, m.2, m.3) (subst (λ y. RefusesPart Named d end y e) (sym m.0) h)
-moded_refused mode.Var d end ks z e (by_var {p = p}) h = refuses_behind Named SomeModed d end (kind.Var at p) z e (into_var p) h
-moded_refused mode.Const_ d end ks z e (by_const {p = p}) h = refuses_behind Named SomeModed d end (kind.Const_ at p) z e (into_const p) h
-moded_refused mode.Out d end ks z e (by_out {out = out} {p = p} w, b) h = refuses_behind (BehindToken (kind.Identifier out at p)) SomeModed d end (kind.Identifier out at p) z e (λ d' a ls r x. (a, r, x)) (refuses_map Named (BehindToken (kind.Identifier out at p)) d end z e (λ d' a ls r s x. into_out out p d' a ls r (same_begins is_identifier z ls s b) x) h)
+moded_refused : (m : ParameterMode) (d : ℕ) (end : Place) (ks z : List Terminal) (e : ParseError) → SomeMode m ks z → RefusesHere Named d end z e → RefusesHere SomeModed d end ks e
+moded_refused mode.Value d end ks z e m h = by_value_refused d end ks e (refl, m.1, m.2, m.3) (subst (λ y. RefusesHere Named d end y e) (sym m.0) h)
+moded_refused mode.Var d end ks z e (by_var {p = p}) h = refuses_behind_by Named SomeModed d end (kind.Var at p) z e (into_var p) (λ q x. absurd x) h
+moded_refused mode.Const_ d end ks z e (by_const {p = p}) h = refuses_behind_by Named SomeModed d end (kind.Const_ at p) z e (into_const p) (λ q x. absurd x) h
+moded_refused mode.Out d end ks z e (by_out {out = out} {p = p} w, b) h = refuses_behind_by {W = Never} (BehindToken (kind.Identifier out at p)) SomeModed d end (kind.Identifier out at p) z e (λ d' a ls r x. (a, r, x)) (λ q x. absurd x) (refuses_map_by Named (BehindToken (kind.Identifier out at p)) d end z e (λ d' a ls r s x. into_out out p d' a ls r (same_begins is_identifier z ls s b) x) (λ q x. absurd x) h)
+
+into_named_parts : (d : ℕ) (x : Both (List Name) (Unit {0})) (ls r : List Terminal) → Named d x ls r → Some_ (Seq SomeNames (Marked mark.Colon)) d ls
+into_named_parts d x ls r (then_ {a = ns} {m = m} f (stands {p = p})) = ((ns, p), r, (m, f, refl))
+
+pub moded_names : (m : ParameterMode) (d : ℕ) (end : Place) (ks z : List Terminal) (e : ParseError) → SomeMode m ks z → RefusesHere SomeNames d end z e → RefusesParts Never SomeModed d end ks e
+moded_names m d end ks z e f h = refuses_part (moded_refused m d end ks z e f (refuses_map_by {W = Never} (Seq SomeNames (Marked mark.Colon)) Named d end z e (λ d' x ls r s y. into_named_parts d' x ls r y) (λ q x. absurd x) (refuses_first_by SomeNames (Marked mark.Colon) d end z e (λ q x. absurd x) h)))
+
+pub moded_colon : (m : ParameterMode) (d : ℕ) (end : Place) (ns : List Name) (ks z l : List Terminal) (e : ParseError) → SomeMode m ks z → SomeNames d ns z l → Refuses (Marked mark.Colon) d end l e → RefusesParts Never SomeModed d end ks e
+moded_colon m d end ns ks z l e f g h = refuses_part (moded_refused m d end ks z e f (refuses_map_by {W = Never} (Seq SomeNames (Marked mark.Colon)) Named d end z e (λ d' x ls r s y. into_named_parts d' x ls r y) (λ q x. absurd x) (refuses_after_by SomeNames (Marked mark.Colon) d end ns z l e known_names g (λ q x. absurd x) (flat_mark mark.Colon h))))
 
 is_mode : (m : ParameterMode) {ks z : List Terminal} → SomeMode m ks z → IsMode m ks z
 is_mode mode.Value {ks = ks} m = subst (IsMode mode.Value ks) m.0 by_value
@@ -124,8 +129,8 @@ is_mode mode.Var m = m
 is_mode mode.Const_ m = m
 is_mode mode.Out m = m.0
 
-pub moded_whole : (m : ParameterMode) {d : ℕ} {ns : List Name} {ks z r : List Terminal} → SomeMode m ks z → Named d (both ns tt) z r → SomeModed d (both m ns) ks r
-moded_whole m f (then_ n stands) = some_moded (is_mode m f) n.0
+pub moded_whole : (m : ParameterMode) {d : ℕ} {ns : List Name} {p : Position} {ks z l r : List Terminal} → SomeMode m ks z → SomeNames d ns z l → l ≡ kind.Colon at p ∷ r → SomeModed d (both m ns) ks r
+moded_whole m {ns = ns} {z = z} f n is = some_moded (is_mode m f) (subst (λ y. AreNames ns z y) is n.0)
 
 pub var_mode : {p : Position} {ks r : List Terminal} → ks ≡ kind.Var at p ∷ r → SomeMode mode.Var ks r
 var_mode {r = r} e = subst (λ z. IsMode mode.Var z r) (sym e) by_var
@@ -149,8 +154,8 @@ type_begins (is_named (is_unqualified is_name)) = refl
 type_begins (is_named (is_qualified is_name n)) = refl
 type_begins is_string = refl
 
-pub type_refused : (d : ℕ) (end : Place) (ks : List Terminal) (e : ParseError) → IsNot begins_designator ks → e ≡ refused_at 9 0 end ks → RefusesPart SomeParameterType d end ks e
-type_refused d end ks e h x = syntax ks x (λ d'. dead_here (SomeParameterType d') ks (λ t ls r s f. apart begins_designator ls (type_begins f.0) (same_not begins_designator ks ls s h)))
+pub type_refused : (d : ℕ) (end : Place) (ks : List Terminal) (e : ParseError) → IsNot begins_designator ks → e ≡ refused_at 9 0 end ks → RefusesParts Never SomeParameterType d end ks e
+type_refused d end ks e h x = by_grammar (syntax ks x (λ d'. dead_here (SomeParameterType d') ks (λ t ls r s f. apart begins_designator ls (type_begins f.0) (same_not begins_designator ks ls s h))))
 
 pub string_kind : (k : TokenKind) → is_string_word k ≡ true → k ≡ kind.String
 string_kind kind.String h = refl
@@ -160,8 +165,8 @@ into_string : (p : Position) (d : ℕ) (t : ParameterType) (ls r : List Terminal
 into_string p d t ls r (is_named q, none) = false_true (qualified_begins q)
 into_string p d t ls r (is_string, none) = ([], r, (refl, none))
 
-pub string_refused : (d : ℕ) (end : Place) (k : TokenKind) (p : Position) (ks : List Terminal) (e : ParseError) → k ≡ kind.String → RefusesHere NoDot d end ks e → RefusesPart SomeParameterType d end (k at p ∷ ks) e
-string_refused d end k p ks e is h = subst (λ z. RefusesPart SomeParameterType d end (z at p ∷ ks) e) (sym is) (refuses_behind NoDot SomeParameterType d end (kind.String at p) ks e (into_string p) (refuses_part h))
+pub string_refused : (d : ℕ) (end : Place) (k : TokenKind) (p : Position) (ks : List Terminal) (e : ParseError) → k ≡ kind.String → RefusesHere NoDot d end ks e → RefusesParts Never SomeParameterType d end (k at p ∷ ks) e
+string_refused d end k p ks e is h = subst (λ z. RefusesParts Never SomeParameterType d end (z at p ∷ ks) e) (sym is) (refuses_behind NoDot SomeParameterType d end (kind.String at p) ks e (into_string p) (λ q x. absurd x) (refuses_part h))
 
 pub string_whole : (d : ℕ) {k : TokenKind} {p : Position} {ks : List Terminal} → k ≡ kind.String → NoMark mark.Dot ks → SomeParameterType d (string_type.String p) (k at p ∷ ks) ks
 string_whole d {p = p} {ks = ks} is none = (subst (λ z. IsParameterType (string_type.String p) (z at p ∷ ks) ks) (sym is) is_string, none)
@@ -170,8 +175,8 @@ into_named : (ks : List Terminal) → IsNot is_string_word ks → (d : ℕ) (t :
 into_named ks h d t ls r s (is_named {q = q} f, none) = (q, r, (f, none))
 into_named ks h d t ls r s (is_string, none) = true_false (same_not is_string_word ks ls s h)
 
-pub named_refused : (d : ℕ) (end : Place) (ks : List Terminal) (e : ParseError) → IsNot is_string_word ks → RefusesHere SomeQualified d end ks e → RefusesPart SomeParameterType d end ks e
-named_refused d end ks e h f = refuses_map SomeQualified SomeParameterType d end ks e (into_named ks h) (refuses_part f)
+pub named_refused : (d : ℕ) (end : Place) (ks : List Terminal) (e : ParseError) → IsNot is_string_word ks → RefusesHere SomeQualified d end ks e → RefusesParts Never SomeParameterType d end ks e
+named_refused d end ks e h f = refuses_map SomeQualified SomeParameterType d end ks e (into_named ks h) (λ q x. absurd x) (refuses_part f)
 
 -- ---- forms
 
@@ -179,12 +184,12 @@ abbrev is_close : TokenKind → Bool
 is_close kind.CloseParenthesis = true
 is_close other = false
 
-pub array_of_const : {p q u : Position} {ks m n r : List Terminal} → ks ≡ kind.Array at p ∷ m → m ≡ kind.Of at q ∷ n → n ≡ kind.Const_ at u ∷ r → HasForm 18 ks ks
-array_of_const {p = p} {q = q} {ks = ks} e e1 e2 = ([], ks, refl, subst (λ z. Form 18 z z) (sym (e ∙ ap (λ z. kind.Array at p ∷ z) (e1 ∙ ap (λ z. kind.Of at q ∷ z) e2))) is_array_of_const)
+pub array_of_const : {p q u : Position} {ks m n r : List Terminal} → ks ≡ kind.Array at p ∷ m → m ≡ kind.Of at q ∷ n → n ≡ kind.Const_ at u ∷ r → HasForm 18 ks ks n
+array_of_const {p = p} {q = q} {u = u} {ks = ks} {r = r} e e1 e2 = ([], ks, refl, subst (λ z. Form 18 ks ks z) (sym e2) (subst (λ z. Form 18 z z (kind.Const_ at u ∷ r)) (sym (e ∙ ap (λ z. kind.Array at p ∷ z) (e1 ∙ ap (λ z. kind.Of at q ∷ z) e2))) is_array_of_const))
 
 pub default_told : {p : Position} {q r : List Terminal} → q ≡ kind.Equal at p ∷ r → TellsBehind PartFront 14 q
 default_told e d a ks (then_ stands (is_ahead h nothing)) = no_close h e
   where
     no_close : {A : Type 0} {p : Position} {q r : List Terminal} → HasMark mark.CloseParenthesis q → q ≡ kind.Equal at p ∷ r → A
     no_close mark_ahead e = differ is_close e refl refl
-default_told {q = q} e d a ks (then_ (stands {r = ls}) (not_ahead {b = as_} none f)) = ([], ks, refl, subst (λ z. Form 14 ks z) (sym e) (is_default (subst (λ z. AreParameters as_ ls z) e (parameters_out f))))
+default_told {q = q} e d a ks (then_ (stands {r = ls}) (not_ahead {b = as_} none f)) = ([], ks, refl, subst (λ z. Form 14 ks z z) (sym e) (is_default (subst (λ z. AreParameters as_ ls z) e (parameters_out f))))

@@ -17,4 +17,7 @@ pub mod DeclaredForms
 pub mod Files
 pub mod Leaves
 pub mod Classes
-pub mod Untold
+pub mod Refusals
+pub mod Opens
+pub mod Begins
+pub mod Told

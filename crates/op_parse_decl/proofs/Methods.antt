@@ -3,8 +3,10 @@ use Rattle.std.proofs.Common.{◌≡◌, ℕ, List, [], ◌∷◌, ◌++◌, app
 use Rattle.std.proofs.lemmas.List.{append-nil}
 use Rattle.op_base.specs.declared.place.Place.{Place}
 use Rattle.op_parse_code.proofs.Refusing.{Some_, Seq}
-use Rattle.op_parse_decl.proofs.Untold.{refuses_map, refuses_first, refuses_after}
-use Rattle.op_parse_decl.specs.Refusal.{RefusesPart}
+use Rattle.op_parse_decl.proofs.Opens.{opens_with}
+use Rattle.op_parse_decl.proofs.Refusals.{refuses_map, refuses_first, refuses_after}
+use Rattle.op_parse_decl.specs.Begun.{Anything, Opens}
+use Rattle.op_parse_decl.specs.Refusal.{Never, RefusesParts}
 use Rattle.op_parse_code.specs.declared.error.ParseError.{ParseError}
 use Rattle.op_parse_decl.specs.HeadingParts.{known_heading}
 use Rattle.op_parse_decl.specs.Headings.{SomeHeading, SomeDirectives, SomeMethod, IsDirective}
@@ -36,11 +38,11 @@ directing_ends d all rest ws so_far none = (subst (λ z. AreDirectives z all res
 into_method : (d : ℕ) (a : Method) (ls r : List Terminal) → SomeMethod d a ls r → Some_ (Seq SomeHeading SomeDirectives) d ls
 into_method d a ls r (is_method {h = h} {ws = ws} {p = p} {m = m} f g, none) = ((h, ws), r, (m, (p, f), (g, none)))
 
-pub method_heading : (d : ℕ) (end : Place) (ks : List Terminal) (e : ParseError) → RefusesPart SomeHeading d end ks e → RefusesPart SomeMethod d end ks e
-method_heading d end ks e h = refuses_map (Seq SomeHeading SomeDirectives) SomeMethod d end ks e (λ d' b ls r s x. into_method d' b ls r x) (refuses_first SomeHeading SomeDirectives d end ks e h)
+pub method_heading : (d : ℕ) (end : Place) (ks : List Terminal) (e : ParseError) → RefusesParts (Opens Anything SomeHeading) SomeHeading d end ks e → RefusesParts (Opens NoDirective SomeMethod) SomeMethod d end ks e
+method_heading d end ks e h = refuses_map {W = Opens NoDirective SomeMethod} (Seq SomeHeading SomeDirectives) SomeMethod d end ks e (λ d' b ls r s x. into_method d' b ls r x) (λ q x. x) (refuses_first SomeHeading SomeDirectives d end ks e (λ q x. opens_with (λ p. []) (λ p z c. tt) (λ i h p ls z s c f. (record { heading = h; directives = [] }, (is_method f.1 are_no_directives, c))) x) h)
 
-pub method_directives : (d : ℕ) (end : Place) (h : Heading) (ks m : List Terminal) (e : ParseError) → SomeHeading d h ks m → RefusesPart SomeDirectives d end m e → RefusesPart SomeMethod d end ks e
-method_directives d end h ks m e f g = refuses_map (Seq SomeHeading SomeDirectives) SomeMethod d end ks e (λ d' b ls r s x. into_method d' b ls r x) (refuses_after SomeHeading SomeDirectives d end h ks m e known_heading f g)
+pub method_directives : (d : ℕ) (end : Place) (h : Heading) (ks m : List Terminal) (e : ParseError) → SomeHeading d h ks m → RefusesParts Never SomeDirectives d end m e → RefusesParts (Opens NoDirective SomeMethod) SomeMethod d end ks e
+method_directives d end h ks m e f g = refuses_map {W = Never} (Seq SomeHeading SomeDirectives) SomeMethod d end ks e (λ d' b ls r s x. into_method d' b ls r x) (λ q x. absurd x) (refuses_after SomeHeading SomeDirectives d end h ks m e known_heading f (λ q x. x) g)
 
 pub method_whole : (d : ℕ) (h : Heading) (ws : List Directive) (ks m r : List Terminal) → SomeHeading d h ks m → SomeDirectives d ws m r → SomeMethod d (record { heading = h; directives = ws }) ks r
 method_whole d h ws ks m r (p, f) (g, none) = (is_method f g, none)

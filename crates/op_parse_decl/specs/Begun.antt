@@ -1,5 +1,5 @@
 -- What is shown of parts that are put together, where one in them is nested too deep: those before it stand, and what is shown of it.
-use Rattle.std.specs.Prelude.{ℕ, suc, Bool, List, ◌∷◌}
+use Rattle.std.specs.Prelude.{◌≡◌, ℕ, ◌<◌, suc, Bool, List, ◌∷◌, ◌++◌}
 use Rattle.op_parse_code.specs.Opening.{kind_of}
 use Rattle.op_parse_code.specs.Refusal.{Phrase, Shown}
 use Rattle.op_parse_code.specs.Whole.{NoMark}
@@ -42,3 +42,21 @@ pub data AheadBegun (m : Mark) (W V : Shown) : ℕ → List Terminal → List Te
 pub data DeeperBegun (W : Shown) : ℕ → List Terminal → List Terminal → Type 0 where
   in_deeper : {d : ℕ} {ks q : List Terminal} → W d ks q → DeeperBegun W (suc d) ks q
   no_room : {ks : List Terminal} → DeeperBegun W 0 ks ks
+
+-- Some part of a greater depth begins with the tokens of ks up to and including the first of q, whatever such tokens stand behind it.
+pub record Opens {A : Type 0} (C : List Terminal → Type 0) (P : Phrase A) (d : ℕ) (ks q : List Terminal) : Type 0 where
+  -- the tokens before q, and the first of q
+  pub seen : List Terminal
+  pub first : Terminal
+  pub rest : List Terminal
+  pub from : ks ≡ seen ++ q
+  pub to : q ≡ first ∷ rest
+  -- the depth of the part, and what it goes on with
+  pub depth : ℕ
+  pub deep : d < depth
+  pub others : List Terminal
+  pub stands : (x : List Terminal) → C x → (a : A) × P depth a (seen ++ (first ∷ (others ++ x))) x
+
+-- any tokens
+abbrev pub Anything : List Terminal → Type 0
+Anything x = Unit {0}

@@ -19,12 +19,12 @@ use Rattle.op_parse_decl.specs.ClassKnown.{known_class}
 use Rattle.op_parse_decl.specs.InitialKnown.{known_initial}
 use Rattle.op_scan.specs.declared.token.TokenKind.{TokenKind}
 use Rattle.op_scan.specs.declared.token.TokenKind.TheVariants as kind
-use Rattle.op_tree.proofs.DeclarationUnique.{begins_data, data_begins, routine_begins, unique_declarations, block_no_declaration}
+use Rattle.op_tree.proofs.DeclarationUnique.{begins_data, data_begins, routine_begins, unique_declarations, block_no_declaration, heading_no_data, identifier_continues}
 use Rattle.op_tree.proofs.ExpressionUnique.{Begins, behind, true_false, false_true}
 use Rattle.op_tree.proofs.MethodUnique.{also, apart, begins_heading, heading_begins, method_begins}
 use Rattle.op_tree.proofs.StatementUnique.{unique_block}
 use Rattle.op_tree.specs.Declaration.{Declaration, Method, heading, routine, Declarations, no_declarations, declarations, Body, body, declaration_of, declarations_of}
-use Rattle.op_tree.specs.DeclarationGrammar.{AreInterfaceDeclarations, are_no_interface_declarations, data_in_interface, heading_in_interface, AreDeclarations, are_no_declarations, data_declared, routine_declared, IsRoutine, is_routine, IsBody, is_body, is_forward as is_forward_body}
+use Rattle.op_tree.specs.DeclarationGrammar.{AreVariablesOfOneType, IsConstant, IsTypeDeclaration, AreInterfaceDeclarations, are_no_interface_declarations, data_in_interface, heading_in_interface, AreDeclarations, are_no_declarations, data_declared, routine_declared, IsRoutine, is_routine, IsBody, is_body, is_forward as is_forward_body}
 use Rattle.op_tree.specs.Ends.{IsNot, EndsDeclarations, continues_declarations}
 use Rattle.op_tree.specs.HeadingGrammar.{beside, directives, directive_of, is_method}
 use Rattle.op_tree.specs.StatementGrammar.{IsBlock, is_begin_end}
@@ -44,12 +44,6 @@ declares_data ks h = also (λ k e. ap (λ b. b || begins_heading k) e) ks h
 declares_routine : (ks : List Terminal) → Begins begins_heading ks → Begins begins_declaration ks
 declares_routine ks h = also (λ k e. ap (λ b. begins_data k || b) e ∙ or_true (begins_data k)) ks h
 
-no_data : (k : TokenKind) → begins_heading k ≡ true → begins_data k ≡ false
-no_data kind.Const_ h = false_true h
-no_data kind.Type_ h = false_true h
-no_data kind.Var h = false_true h
-no_data other h = refl
-
 no_name : (k : TokenKind) → begins_declaration k ≡ true → is_identifier k ≡ false
 no_name (kind.Identifier text) h = false_true h
 no_name other h = refl
@@ -62,10 +56,6 @@ neither f (t ∷ ks) h = f t.kind h
 no_directive : (k : TokenKind) → is_identifier k ≡ false → is_directive k ≡ false
 no_directive (kind.Identifier text) h = true_false h
 no_directive other h = refl
-
-ends_no_name : (k : TokenKind) → continues_declarations k ≡ false → is_identifier k ≡ false
-ends_no_name (kind.Identifier text) h = true_false h
-ends_no_name other h = refl
 
 ends_none : (k : TokenKind) → continues_declarations k ≡ false → begins_declaration k ≡ false
 ends_none kind.Const_ h = true_false h
@@ -85,7 +75,7 @@ begin_none f (no_more h) n = n
 begin_none {ks = ks} f (one_more h p more) n = apart f ks h
 
 begin_no_name : {P : Phrase Declaration} {d : ℕ} {es : List Declaration} {ks r : List Terminal} → Repeats begins_declaration P d es ks r → EndsDeclarations r → IsNot is_identifier ks
-begin_no_name {r = r} more h = begin_none no_name more (neither ends_no_name r h)
+begin_no_name {r = r} more h = begin_none no_name more (neither identifier_continues r h)
 
 pub interface_in : {d : ℕ} {es : Declarations} {ks r : List Terminal} → AreInterfaceDeclarations d es ks r → EndsDeclarations r → AllOf InterfaceDeclaration d es ks r
 interface_in {r = r} are_no_interface_declarations h = no_more (neither ends_none r h)
@@ -127,7 +117,7 @@ heading_of_parts (otherwise h f) = interface_heading f
 
 pub made_interface_declaration : As DataOrHeading InterfaceDeclaration
 made_interface_declaration d e ks r (interface_data f) = (this e, chosen (data_begins f.0) f, λ i ls s x. data_of_parts x)
-made_interface_declaration d e ks r (interface_heading {a = a} f) = (that a, otherwise (apart no_data ks (method_begins f.0)) f, λ i ls s x. heading_of_parts x)
+made_interface_declaration d e ks r (interface_heading {a = a} f) = (that a, otherwise (apart heading_no_data ks (method_begins f.0)) f, λ i ls s x. heading_of_parts x)
 
 -- ---- a declaration of any other part
 
@@ -156,17 +146,24 @@ body_no_directive (is_forward_body {word = word} e) = forward_is_none word e
 
 pub made_block_declaration : As DataOrRoutine BlockDeclaration
 made_block_declaration d e ks r (block_data f) = (this e, chosen (data_begins f.0) f, λ i ls s x. data_in_block x)
-made_block_declaration d e ks r (block_routine (is_routine {h = h} {ws = ws} {b = b} {q = q} f g t)) = (that (both (record { heading = h; directives = ws }) b), otherwise (apart no_data ks (heading_begins f)) (deeper (then_ (is_method f g, body_no_directive t) (q, t))), λ i ls s x. routine_in_block x)
+made_block_declaration d e ks r (block_routine (is_routine {h = h} {ws = ws} {b = b} {q = q} f g t)) = (that (both (record { heading = h; directives = ws }) b), otherwise (apart heading_no_data ks (heading_begins f)) (deeper (then_ (is_method f g, body_no_directive t) (q, t))), λ i ls s x. routine_in_block x)
 
 -- ---- what is known of them
 
 known_definition : Known DefinitionBefore
 known_definition = known_as made_definition (known_fork known_class (known_ahead known_interface (known_then known_denoter (known_stands mark.Semicolon))))
 
+pub known_constant : Known IsConstant
+known_constant = known_as made_constant (known_then known_name (known_then (known_behind known_denoter) (known_then (known_stands mark.Equal) (known_then known_initial (known_stands mark.Semicolon)))))
+
+pub known_variables : Known AreVariablesOfOneType
+known_variables = known_as made_variables (known_then known_names (known_then (known_stands mark.Colon) (known_then known_denoter (known_then (known_behind known_initial) (known_stands mark.Semicolon)))))
+
+pub known_type : Known IsTypeDeclaration
+known_type = known_as made_type (known_then known_name (known_then (known_stands mark.Equal) known_definition))
+
 pub known_data : Known SomeData
-known_data = known_as made_data (known_fork (known_several (known_as made_constant (known_then known_name (known_then (known_behind known_denoter) (known_then (known_stands mark.Equal) (known_then known_initial (known_stands mark.Semicolon)))))))
-    (known_fork (known_several (known_as made_variables (known_then known_names (known_then (known_stands mark.Colon) (known_then known_denoter (known_then (known_behind known_initial) (known_stands mark.Semicolon)))))))
-    (known_then (known_stands mark.Type_) (known_several (known_as made_type (known_then known_name (known_then (known_stands mark.Equal) known_definition)))))))
+known_data = known_as made_data (known_fork (known_several known_constant) (known_fork (known_several known_variables) (known_then (known_stands mark.Type_) (known_several known_type))))
 
 mutual
   front_declarations : {d : ℕ} {es : Declarations} {ks r : List Terminal} → AreDeclarations d es ks r → EndsDeclarations r → Stays (AreDeclarations d es) ks r

@@ -1,9 +1,10 @@
 -- What is left of a class, from the tokens behind a part of it on, up to its `end` and the semicolon behind it.
 use Rattle.std.specs.Prelude.{◌≡◌, ℕ, Bool, true, false, List, [], ◌∷◌, ◌++◌, Option, Some, None, codes, map}
 use Rattle.op_base.specs.declared.place.Place.{Place}
-use Rattle.op_parse_code.specs.Form.{Form}
+use Rattle.op_parse_decl.specs.Form.{Form}
 use Rattle.op_parse_code.specs.Refusal.{Phrase}
-use Rattle.op_parse_decl.specs.Refusal.{RefusesPart}
+use Rattle.op_parse_decl.specs.Begun.{Anything, Opens}
+use Rattle.op_parse_decl.specs.Refusal.{RefusesParts}
 use Rattle.op_parse_code.specs.declared.error.ParseError.{ParseError}
 use Rattle.op_parse_decl.specs.Headings.{SomeHeading}
 use Rattle.op_parse_decl.specs.declared.class.Body.{Body}
@@ -40,7 +41,7 @@ pub data ClassRest : Bool → ℕ → Unit {0} → List Terminal → List Termin
 
 -- no rest of a class stands there, also not behind a method that has no more directives there
 abbrev pub RefusesRest : ℕ → Place → List Terminal → ParseError → Type 0
-RefusesRest d end ks e = (b : Bool) → (b ≡ true → NoDirective ks) → RefusesPart (ClassRest b) d end ks e
+RefusesRest d end ks e = (b : Bool) → (b ≡ true → NoDirective ks) → RefusesParts (Opens Anything (ClassRest b)) (ClassRest b) d end ks e
 
 -- ---- an entry
 
@@ -113,10 +114,10 @@ begins_resolution other = false
 abbrev pub Resolves : List Terminal → List Terminal → Type 0
 Resolves ks form = (n : Name) × (p q : Position) × (ls r : List Terminal) × (ks ≡ kind.Dot at p ∷ ls) × IsName n ls form × (form ≡ kind.Equal at q ∷ r)
 
--- the word `default` and a semicolon stand at the front
-abbrev pub StandsDefault : List Terminal → Type 0
-StandsDefault ks = (word : List ℕ) × (p q : Position) × (r : List Terminal) × IsWord (codes "default") word × (ks ≡ kind.Identifier word at p ∷ kind.Semicolon at q ∷ r)
+-- the word `default` stands at the front, and a semicolon with other tokens behind it
+abbrev pub StandsDefault : List Terminal → List Terminal → Type 0
+StandsDefault ks m = (word : List ℕ) × (p q : Position) × (r : List Terminal) × IsWord (codes "default") word × (ks ≡ kind.Identifier word at p ∷ m) × (m ≡ kind.Semicolon at q ∷ r)
 
 -- where these tokens stand behind a property, it has this feature
 abbrev pub IsFormBehindProperty : ℕ → List Terminal → Type 0
-IsFormBehindProperty feature q = StandsDefault q × ((d : ℕ) (a : Property) (ks : List Terminal) → IsProperty d a ks q → Form feature ks q)
+IsFormBehindProperty feature q = (m : List Terminal) × StandsDefault q m × ((d : ℕ) (a : Property) (ks : List Terminal) → IsProperty d a ks q → Form feature ks q m)

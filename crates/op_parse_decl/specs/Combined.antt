@@ -1,6 +1,6 @@
 -- Phrases that are put together.
 use Rattle.std.specs.Prelude.{ℕ, suc, Bool, List, [], ◌∷◌, Option, Some, None}
-use Rattle.op_parse_code.specs.Form.{HasForm}
+use Rattle.op_parse_decl.specs.Form.{HasForm}
 use Rattle.op_parse_code.specs.Opening.{kind_of}
 use Rattle.op_parse_code.specs.Refusal.{Phrase}
 use Rattle.op_parse_code.specs.Whole.{NoMark}
@@ -74,4 +74,4 @@ pub data Separated {A : Type 0} (m : Mark) (P : Phrase A) : ℕ → List A → L
 
 -- where these tokens stand behind such a part, the tokens from the part on have the form of this feature
 abbrev pub TellsBehind : {A : Type 0} → Phrase A → ℕ → List Terminal → Type 0
-TellsBehind {A} P feature q = (d : ℕ) (a : A) (ks : List Terminal) → P d a ks q → HasForm feature ks q
+TellsBehind {A} P feature q = (d : ℕ) (a : A) (ks : List Terminal) → P d a ks q → HasForm feature ks q q

@@ -11,20 +11,18 @@ use Rattle.op_parse_decl.specs.Known.{As, no_mark_by}
 use Rattle.op_parse_decl.specs.Types.{SomeDenoter, SomeInitial, SomeNames}
 use Rattle.op_scan.specs.declared.token.TokenKind.{TokenKind}
 use Rattle.op_scan.specs.declared.token.TokenKind.TheVariants as kind
-use Rattle.op_tree.proofs.ExpressionUnique.{Begins, chain_begins, false_true, is_colon, is_comma}
-use Rattle.op_tree.proofs.DenoterUnique.{is_structure, structure_begins}
-use Rattle.op_tree.proofs.MethodUnique.{apart}
+use Rattle.op_tree.proofs.DeclarationUnique.{denoter_no_object, first_value_stops}
+use Rattle.op_tree.proofs.ExpressionUnique.{Begins, is_colon, is_comma}
 use Rattle.op_tree.proofs.StatementUnique.{both as apart_by}
 use Rattle.op_parse_code.specs.Opening.{is_identifier}
 use Rattle.op_tree.specs.declared.heading.Directive.{Directive}
 use Rattle.op_tree.specs.Declaration.{Constant, Variables, TypeDefinition, denotes, TypeDeclaration, constants, types, variables, Heading}
 use Rattle.op_tree.specs.DeclarationGrammar.{IsConstant, is_constant, AreVariablesOfOneType, are_variables_of_one_type, IsFirstValue, has_no_first_value, has_first_value, IsTypeDeclaration, is_type_declaration, denotes_type, is_forward_class, is_class, is_forward_interface, is_interface, AreConstants, is_one_constant, are_constants, AreTypes, is_one_type, are_types, AreVariables, is_one_variables, are_variables, declares_constants, declares_types, declares_variables}
 use Rattle.op_tree.specs.Denoter.{Denoter}
-use Rattle.op_tree.specs.DenoterGrammar.{IsDenoter, is_named, is_string, is_subrange, is_enumeration, is_set, is_unpacked, is_packed}
-use Rattle.op_tree.specs.Ends.{IsNot, StopsDenoter, begins_expression}
+use Rattle.op_tree.specs.Ends.{IsNot, StopsDenoter}
 use Rattle.op_tree.specs.HeadingGrammar.{IsOptionalType, has_no_type, has_type, has_body_alone, has_list_alone, has_list_and_body, has_methods_alone, has_ancestor_alone, has_ancestor_and_methods, AreDirectives, are_no_directives, are_directives, is_method}
 use Rattle.op_tree.specs.Initial.{Initial}
-use Rattle.op_tree.specs.NameGrammar.{is_name, is_unqualified, is_qualified, are_one_name, are_names}
+use Rattle.op_tree.specs.NameGrammar.{is_name, are_one_name, are_names}
 use Rattle.op_tree.specs.Terminal.{Terminal, ◌at◌}
 use Rattle.op_tree.specs.declared.position.Name.{Name}
 use Rattle.op_tree.specs.declared.position.Position.{Position}
@@ -51,10 +49,6 @@ value_out : {d : ℕ} {i : Option Initial} {ks r : List Terminal} → Behind mar
 value_out (no_mark none) = has_no_first_value
 value_out (behind_mark i) = has_first_value i.0
 
-value_stops : {d : ℕ} {i : Option Initial} {p : Position} {ks r : List Terminal} → IsFirstValue d i ks (kind.Semicolon at p ∷ r) → StopsDenoter ks
-value_stops has_no_first_value = record { operator = refl; selector = refl; range = refl }
-value_stops (has_first_value i) = record { operator = refl; selector = refl; range = refl }
-
 -- ---- constants
 
 abbrev pub ConstantParts : Phrase (Both Name (Both (Option Denoter) (Both (Unit {0}) (Both Initial (Unit {0})))))
@@ -75,7 +69,7 @@ pub variables_of_parts : {d : ℕ} {ns : List Name} {t : Denoter} {i : Option In
 variables_of_parts (then_ n (then_ stands (then_ t (then_ i stands)))) = are_variables_of_one_type n.0 t.0 (value_out i)
 
 pub made_variables : As VariablesParts AreVariablesOfOneType
-made_variables d v ks r (are_variables_of_one_type {ns = ns} {t = t} {i = i} {p = p} {q = q} f g h) = (both ns (both tt (both t (both i tt))), then_ (f, no_mark_by mark.Comma is_comma refl refl) (then_ stands (then_ (g, value_stops h) (then_ (value_in h) stands))), λ i ls s x. variables_of_parts x)
+made_variables d v ks r (are_variables_of_one_type {ns = ns} {t = t} {i = i} {p = p} {q = q} f g h) = (both ns (both tt (both t (both i tt))), then_ (f, no_mark_by mark.Comma is_comma refl refl) (then_ stands (then_ (g, first_value_stops h) (then_ (value_in h) stands))), λ i ls s x. variables_of_parts x)
 
 -- ---- types
 
@@ -109,26 +103,6 @@ abbrev begins_object : TokenKind → Bool
 begins_object kind.Class = true
 begins_object kind.Interface = true
 begins_object other = false
-
-expression_no_object : (k : TokenKind) → begins_expression k ≡ true → begins_object k ≡ false
-expression_no_object kind.Class h = false_true h
-expression_no_object kind.Interface h = false_true h
-expression_no_object other h = refl
-
-structure_no_object : (k : TokenKind) → is_structure k ≡ true → begins_object k ≡ false
-structure_no_object kind.Class h = false_true h
-structure_no_object kind.Interface h = false_true h
-structure_no_object other h = refl
-
-pub denoter_no_object : {d : ℕ} {t : Denoter} {ks r : List Terminal} → IsDenoter d t ks r → IsNot begins_object ks
-denoter_no_object (is_named (is_unqualified is_name)) = refl
-denoter_no_object (is_named (is_qualified is_name b)) = refl
-denoter_no_object is_string = refl
-denoter_no_object {ks = ks} (is_subrange a b) = apart expression_no_object ks (chain_begins a)
-denoter_no_object (is_enumeration ns) = refl
-denoter_no_object (is_set t) = refl
-denoter_no_object (is_unpacked {k = k} s) = structure_no_object k (structure_begins s)
-denoter_no_object (is_packed s) = refl
 
 class_in : {d : ℕ} {t : TypeDefinition} {ks r : List Terminal} → DefinitionParts d (this t) ks r → (a : _) × DefinitionParts d a ks r × ((i : ℕ) (ls s : List Terminal) → DefinitionParts i a ls s → DefinitionBefore i t ls s)
 class_in {t = t} f = (this t, f, λ i ls s x. class_of_parts x)

@@ -77,6 +77,10 @@ listed (declarations e es) = e ∷ listed es
 abbrev pub AllOf : Phrase Declaration → Phrase Declarations
 AllOf P d es ks r = Repeats begins_declaration P d (listed es) ks r
 
+-- what belongs to no declarations of a block
+abbrev pub EndsBlockDeclarations : List Terminal → Type 0
+EndsBlockDeclarations x = IsNot begins_declaration x × IsNot is_identifier x
+
 -- what stands behind the heading and the directives of a routine, and the semicolon behind it
 abbrev pub BodyBefore : Phrase Body
 BodyBefore d b ks r = (q : Position) × IsBody d b ks (kind.Semicolon at q ∷ r)

@@ -7,7 +7,7 @@ use Rattle.op_parse_code.specs.Refusal.{Phrase}
 use Rattle.op_parse_code.specs.Whole.{NoMark, SomeName}
 use Rattle.op_parse_code.specs.declared.mark.Mark.TheVariants as mark
 use Rattle.op_parse_decl.specs.Combined.{Both, both, Stands, stands, Then, then_, Repeats, no_more, one_more, Or, this, that, Deeper, deeper, Nothing, nothing, Fork, marked, unmarked, mark_ahead, Ahead, is_ahead, not_ahead}
-use Rattle.op_parse_decl.specs.DeclarationParts.{denoter_no_object, made_method}
+use Rattle.op_parse_decl.specs.DeclarationParts.{made_method}
 use Rattle.op_parse_decl.specs.Declarations.{WholeMethod, is_directive}
 use Rattle.op_parse_decl.specs.HeadingParts.{known_heading}
 use Rattle.op_parse_decl.specs.Interfaces.{IsLiteral, literal, no_ancestor, an_ancestor, SomeIdentifier, no_identifier, an_identifier, SomeInterfaceHead, some_head, bodiless, InterfaceBefore}
@@ -16,6 +16,8 @@ use Rattle.op_parse_decl.specs.KnownLeaves.{known_directive}
 use Rattle.op_parse_decl.specs.Opening.{is_open}
 use Rattle.op_scan.specs.declared.token.TokenKind.{TokenKind}
 use Rattle.op_scan.specs.declared.token.TokenKind.TheVariants as kind
+use Rattle.op_tree.proofs.ClassUnique.{methods_no_semicolon}
+use Rattle.op_tree.proofs.DeclarationUnique.{denoter_no_object}
 use Rattle.op_tree.proofs.ExpressionUnique.{false_true, true_false}
 use Rattle.op_tree.proofs.MethodUnique.{apart, begins_heading, begins_methods, method_begins, methods_begin}
 use Rattle.op_tree.proofs.StatementUnique.{is_semicolon}
@@ -44,13 +46,13 @@ known_literal = record { front = front_literal; same = same_literal; deepens = d
 
 -- ---- the word, the ancestor and the text
 
-abbrev AncestorParts : Phrase (Or (Both (Unit {0}) (Both Name (Unit {0}))) (Unit {0}))
+abbrev pub AncestorParts : Phrase (Or (Both (Unit {0}) (Both Name (Unit {0}))) (Unit {0}))
 AncestorParts = Ahead mark.OpenParenthesis (Deeper (Then (Stands mark.OpenParenthesis) (Then SomeName (Stands mark.CloseParenthesis)))) Nothing
 
-abbrev IdentifierParts : Phrase (Or (Both (Unit {0}) (Both (List ℕ) (Unit {0}))) (Unit {0}))
+abbrev pub IdentifierParts : Phrase (Or (Both (Unit {0}) (Both (List ℕ) (Unit {0}))) (Unit {0}))
 IdentifierParts = Ahead mark.OpenBracket (Deeper (Then (Stands mark.OpenBracket) (Then IsLiteral (Stands mark.CloseBracket)))) Nothing
 
-abbrev HeadParts : Phrase (Both (Unit {0}) (Both (Or (Both (Unit {0}) (Both Name (Unit {0}))) (Unit {0})) (Or (Both (Unit {0}) (Both (List ℕ) (Unit {0}))) (Unit {0}))))
+abbrev pub HeadParts : Phrase (Both (Unit {0}) (Both (Or (Both (Unit {0}) (Both Name (Unit {0}))) (Unit {0})) (Or (Both (Unit {0}) (Both (List ℕ) (Unit {0}))) (Unit {0}))))
 HeadParts = Then (Stands mark.Interface) (Then AncestorParts IdentifierParts)
 
 pub head_of_none : {d : ℕ} {ks r : List Terminal} → HeadParts d (both tt (both (that tt) (that tt))) ks r → SomeInterfaceHead d (both None None) ks r
@@ -120,10 +122,6 @@ methods_no_selector kind.Dot h = false_true h
 methods_no_selector kind.OpenBracket h = false_true h
 methods_no_selector kind.OpenParenthesis h = false_true h
 methods_no_selector other h = refl
-
-methods_no_semicolon : (k : TokenKind) → begins_methods k ≡ true → is_semicolon k ≡ false
-methods_no_semicolon kind.Semicolon h = false_true h
-methods_no_semicolon other h = refl
 
 identifier_in : {d : ℕ} {text : Option (List ℕ)} {ks r : List Terminal} → IsIdentifier d text ks r → IsNot begins_selector r → SomeIdentifier d text ks r × NoMark mark.OpenParenthesis ks
 identifier_in has_no_identifier h = (no_identifier (no_mark_by mark.OpenBracket begins_selector refl h), no_mark_by mark.OpenParenthesis begins_selector refl h)

@@ -1,3 +1,4 @@
+pub mod Form
 pub mod Refusal
 pub mod Combined
 pub mod Known

@@ -1,6 +1,6 @@
 -- What the first token of a type tells.
 use Rattle.std.specs.Prelude.{◌≡◌, ℕ, Bool, true, false, ◌&&◌, ◌||◌, List, ◌∷◌, codes}
-use Rattle.op_parse_code.specs.Form.{BeginsProcedural, Form, GivesValue}
+use Rattle.op_parse_decl.specs.Form.{BeginsProcedural, Form, GivesValue, HasForm}
 use Rattle.op_parse_code.specs.Opening.{is_identifier}
 use Rattle.op_parse_decl.specs.declared.opening.DenoterOpening.{DenoterOpening}
 use Rattle.op_parse_decl.specs.declared.opening.DenoterOpening.TheVariants as opens
@@ -37,7 +37,7 @@ OpensDenoter opens.Array k = k ≡ kind.Array
 OpensDenoter opens.Record k = k ≡ kind.Record
 OpensDenoter opens.Packed k = k ≡ kind.Packed
 OpensDenoter opens.Procedural k = BeginsProcedural k
-OpensDenoter (opens.LeftOut feature) k = (begins_denoter k ≡ false) × ((p : Position) (r : List Terminal) → Form feature (k at p ∷ r) (k at p ∷ r))
+OpensDenoter (opens.LeftOut feature) k = (begins_denoter k ≡ false) × ((p : Position) (r : List Terminal) → Form feature (k at p ∷ r) (k at p ∷ r) (k at p ∷ r))
 OpensDenoter opens.Nothing k = begins_denoter k ≡ false
 
 -- the tokens go on as behind the name of an enumeration's value that has a number
@@ -52,9 +52,13 @@ IsProcedural ks = (t : Terminal) × (k : TokenKind) × (p : Position) × (r : Li
 abbrev pub BeginsAt : List Terminal → List Terminal → Type 0
 BeginsAt ks form = (text : List ℕ) × (q : Position) × (r : List Terminal) × IsWord (codes "at") text × (ks ≡ kind.Identifier text at q ∷ r) × (form ≡ kind.Identifier text at q ∷ r)
 
+-- a form stands at the front, which its first token tells, and with the token behind that no sentence goes on
+abbrev pub HasBehindFirst : ℕ → List Terminal → Type 0
+HasBehindFirst feature ks = (t : Terminal) (r : List Terminal) → ks ≡ t ∷ r → HasForm feature ks ks r
+
 -- where these tokens stand behind fields of a record, it has this feature, and no fields begin so
 abbrev pub IsFormOfRecord : ℕ → List Terminal → Type 0
-IsFormOfRecord feature q = IsNot is_identifier q × ((d : ℕ) (fs : FieldLists) (p : Position) (ks : List Terminal) → AreFieldLists d fs ks q → Form feature (kind.Record at p ∷ ks) q)
+IsFormOfRecord feature q = IsNot is_identifier q × ((d : ℕ) (fs : FieldLists) (p : Position) (ks : List Terminal) → AreFieldLists d fs ks q → Form feature (kind.Record at p ∷ ks) q q)
 
 -- an opening bracket, a name and a comma stand at the front
 abbrev pub lists_names : List Terminal → Bool

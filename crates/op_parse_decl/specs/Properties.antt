@@ -16,10 +16,11 @@ use Rattle.op_parse_decl.specs.Known.{As, Stays, known_as, known_stands, known_t
 use Rattle.op_parse_decl.specs.KnownTypes.{known_denoter}
 use Rattle.op_parse_decl.specs.Types.{SomeDenoter}
 use Rattle.op_scan.specs.declared.token.TokenKind.TheVariants as kind
+use Rattle.op_tree.proofs.ClassUnique.{accessor_stops}
 use Rattle.op_tree.proofs.ExpressionUnique.{true_false}
 use Rattle.op_tree.proofs.StatementUnique.{unique_name}
 use Rattle.op_tree.specs.Denoter.{Denoter}
-use Rattle.op_tree.specs.Ends.{IsNot, StopsDenoter}
+use Rattle.op_tree.specs.Ends.{IsNot}
 use Rattle.op_tree.specs.HeadingGrammar.{IsAccessor, has_no_accessor, has_accessor, IsProperty, is_property}
 use Rattle.op_tree.specs.Terminal.{Terminal, ◌at◌, IsWord}
 use Rattle.op_tree.specs.declared.position.Name.{Name}
@@ -85,10 +86,6 @@ no_read (has_accessor w f) = subst (λ z. bytes_eq z (codes "read") ≡ false) (
 read_in : (d : ℕ) {n n' : Option Name} {u : Position} {ks m r : List Terminal} → IsAccessor (codes "read") n ks m → IsAccessor (codes "write") n' m (kind.Semicolon at u ∷ r) → SomeAccessor (codes "read") d n ks m
 read_in d has_no_accessor g = (refl, no_read g)
 read_in d (has_accessor w f) g = has_accessor w f
-
-accessor_stops : {word : List ℕ} {n : Option Name} {ks r : List Terminal} → IsAccessor word n ks r → StopsDenoter r → StopsDenoter ks
-accessor_stops has_no_accessor h = h
-accessor_stops (has_accessor w n) h = record { operator = refl; selector = refl; range = refl }
 
 pub property_of_parts : {d : ℕ} {n : Name} {t : Denoter} {read write : Option Name} {ks r : List Terminal} → PropertyParts d (both (both (both (both tt n) tt) t) (both (both read write) tt)) ks r → IsProperty d (record { name = n; denoter = t; read = read; write = write }) ks r
 property_of_parts {d = d} {read = read} {write = write} (then_ (then_ (then_ (then_ stands f) stands) t) (then_ (then_ a b) stands)) = is_property f t.0 (accessor_out (codes "read") d read a) (accessor_out (codes "write") d write b)

@@ -1,14 +1,17 @@
 //! Choices by the first token, parts one deeper, and forms that are left out.
 ghost use Rattle.std.specs.Prelude.{◌≡◌, ◌+◌, IfSome, List, map, suc, min};
-ghost use Rattle.op_parse_code.specs.Form.{HasForm};
+ghost use Rattle.op_parse_decl.specs.Form.{HasForm};
+ghost use Rattle.op_parse_decl.specs.Begun.{AheadBegun, ChoiceBegun, DeeperBegun, ForkBegun, RepeatsBegun, ThenBegun};
 ghost use Rattle.op_parse_decl.specs.Combined.{Ahead, Both, Choice, Deeper, Fork, Nothing, Or, Several, TellsBehind, Then, both};
 ghost use Rattle.op_parse_decl.specs.Either.{ahead_of, either_of, fork_of};
 ghost use Rattle.op_parse_decl.specs.Known.{known_ahead, known_choice, known_deeper, known_fork, known_nothing, known_several, known_then};
+ghost use Rattle.op_parse_decl.specs.Refusal.{Never};
 ghost use Rattle.op_tree.specs.Terminal.{terminals};
 
+use crate::form::told_at;
 use crate::part::{Answer, Item, Part, Repeated, Setting, begins};
 use crate::sign::Sign;
-use op_parse_code::shared::{behind_mark, enter, syntax, told};
+use op_parse_code::shared::{behind_mark, enter, syntax};
 use op_scan::Token;
 use std::marker::PhantomData;
 
@@ -25,6 +28,8 @@ impl<A: Item, B: Part> Part for Either<A, B> {
     ghost says = { either_of A.says B.says };
 
     ghost phrase = { Choice A.test A.phrase B.phrase };
+
+    ghost begun = { ChoiceBegun A.test A.begun B.begun };
 
     ghost least = { min A.least B.least };
 
@@ -53,6 +58,8 @@ impl<S: Sign, A: Part, B: Part> Part for Fork<S, A, B> {
     ghost says = { fork_of A.says B.says };
 
     ghost phrase = { Fork S.sign A.phrase B.phrase };
+
+    ghost begun = { ForkBegun S.sign A.begun B.begun };
 
     ghost least = { min (suc A.least) B.least };
 
@@ -86,6 +93,8 @@ impl<S: Sign, A: Part, B: Part> Part for Ahead<S, A, B> {
 
     ghost phrase = { Ahead S.sign A.phrase B.phrase };
 
+    ghost begun = { AheadBegun S.sign A.begun B.begun };
+
     ghost least = { 0 };
 
     fn read<'a>(setting: Setting, tokens: &'a [Token]) -> Answer<'a, Ahead<S, A, B>> {
@@ -115,6 +124,8 @@ impl Part for Empty {
 
     ghost phrase = { Nothing };
 
+    ghost begun = { Never };
+
     ghost least = { 0 };
 
     fn read<'a>(_setting: Setting, tokens: &'a [Token]) -> Answer<'a, Empty> {
@@ -136,6 +147,8 @@ impl<A: Item> Part for Several<A> {
     ghost says = { λ x. map A.says x.items.items };
 
     ghost phrase = { Several A.test A.phrase };
+
+    ghost begun = { RepeatsBegun A.test A.phrase A.begun };
 
     ghost least = { 0 };
 
@@ -163,6 +176,8 @@ impl<A: Part> Part for Nested<A> {
 
     ghost phrase = { Deeper A.phrase };
 
+    ghost begun = { DeeperBegun A.begun };
+
     ghost least = { A.least };
 
     fn read<'a>(setting: Setting, tokens: &'a [Token]) -> Answer<'a, Nested<A>> {
@@ -176,12 +191,12 @@ impl<A: Part> Part for Nested<A> {
 
 /// A form that is left out and shows at the front.
 pub trait Form {
-    /// The number of its feature.
-    fn feature(tokens: &[Token]) -> Option<u8>
-        ensures { IfSome result (λ feature. HasForm feature (terminals tokens.now) (terminals tokens.now)) };
+    /// The number of its feature, and the tokens from the one on with which no sentence goes on.
+    fn feature(tokens: &[Token]) -> Option<(u8, &[Token])>
+        ensures { IfSome result (λ f. HasForm f.0 (terminals tokens.now) (terminals tokens.now) (terminals f.1.now)) };
 }
 
-/// A part; where it is refused by rule 9 and a form that is left out stands there, that form.
+/// A part; where rule 9 refuses it in a form that is left out, that form.
 #[derive(Drop)]
 pub struct Unless<F: Form, A> {
     pub part: A,
@@ -195,6 +210,8 @@ impl<F: Form, A: Part> Part for Unless<F, A> {
 
     ghost phrase = { A.phrase };
 
+    ghost begun = { A.begun };
+
     ghost least = { A.least };
 
     fn read<'a>(setting: Setting, tokens: &'a [Token]) -> Answer<'a, Unless<F, A>> {
@@ -204,7 +221,7 @@ impl<F: Form, A: Part> Part for Unless<F, A> {
                 Ok((Unless { part, form }, rest))
             }
             Err(error) => match F::feature(tokens) {
-                Some(feature) => Err(told(feature, setting.end, tokens, error)),
+                Some((feature, last)) => Err(told_at(feature, setting.end, tokens, last, error)),
                 None => Err(error),
             },
         }
@@ -237,6 +254,8 @@ impl<F: FormBehind, A: Part> Part for Unbroken<F, A> {
 
     ghost phrase = { Then F.Front.phrase A.phrase };
 
+    ghost begun = { ThenBegun F.Front.begun F.Front.phrase A.begun };
+
     ghost least = { F.Front.least + A.least };
 
     fn read<'a>(setting: Setting, tokens: &'a [Token]) -> Answer<'a, Unbroken<F, A>> {
@@ -247,7 +266,7 @@ impl<F: FormBehind, A: Part> Part for Unbroken<F, A> {
                 Ok((Unbroken { front, part, form }, behind))
             }
             Err(error) => match F::feature(rest) {
-                Some(feature) => Err(told(feature, setting.end, rest, error)),
+                Some(feature) => Err(told_at(feature, setting.end, rest, rest, error)),
                 None => Err(error),
             },
         }

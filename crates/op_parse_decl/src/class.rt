@@ -4,6 +4,7 @@ ghost use Rattle.op_parse_code.specs.Opening.{is_identifier};
 ghost use Rattle.op_parse_code.specs.Whole.{NoMark};
 ghost use Rattle.op_parse_code.specs.WholeStatement.{front_is};
 ghost use Rattle.op_parse_code.specs.declared.mark.Mark.TheVariants as mark;
+ghost use Rattle.op_parse_decl.specs.Begun.{Anything, Opens};
 ghost use Rattle.op_parse_decl.specs.ClassKnown.{known_class, known_sections};
 ghost use Rattle.op_parse_decl.specs.Classes.{Adds, IsVisibility, NoVisibility, RefusesRest, SectionsBefore, SomeEntry, SomeMember, entry_of, goes_on_as_field, sections_before};
 ghost use Rattle.op_parse_decl.specs.Declarations.{DefinitionBehind};
@@ -16,13 +17,14 @@ ghost use Rattle.op_tree.specs.declared.class.Member.TheVariants as members;
 
 use crate::choice::{Either, Empty, Fork};
 use crate::declared_form::{form_behind_property, form_of_member};
+use crate::form::told_at;
 use crate::heading::method;
 use crate::leaf::BracketedNames;
 use crate::names::names;
 use crate::part::{Answer, Part, Setting, Stands};
 use crate::sign;
 use op_base::NoMemory;
-use op_parse_code::shared::{Mark, after_mark, behind_mark, is_identifier, left_out, told};
+use op_parse_code::shared::{Mark, after_mark, behind_mark, is_identifier, left_out};
 use op_scan::{Token, TokenKind};
 use op_tree::{
     Class, Fields, Member, Names, Property, Section, TypeDefinition, TypeDenoter, Visibility,
@@ -47,6 +49,8 @@ impl Part for ClassBehind {
     ghost says = { λ x. definition_of x.definition };
 
     ghost phrase = { DefinitionBehind kind.Class };
+
+    ghost begun = { Opens Anything (DefinitionBehind kind.Class) };
 
     ghost least = { 0 };
 
@@ -100,6 +104,8 @@ impl Part for Sections {
     ghost says = { λ x. map section_of x.sections.items };
 
     ghost phrase = { SectionsBefore };
+
+    ghost begun = { Opens Anything SectionsBefore };
 
     fn read<'a>(setting: Setting, tokens: &'a [Token]) -> Answer<'a, Sections> {
         let mut body = Body {
@@ -182,7 +188,7 @@ fn next_entry<'a>(setting: Setting, tokens: &'a [Token]) -> Answer<'a, Entry>
     match member(setting, tokens) {
         Ok((member, rest)) => Ok((Entry::Member(member), rest)),
         Err(error) => match form_of_member(tokens) {
-            Some((feature, form)) => Err(told(feature, setting.end, form, error)),
+            Some((feature, form, last)) => Err(told_at(feature, setting.end, form, last, error)),
             None => Err(error),
         },
     }

@@ -3,12 +3,14 @@ ghost use Rattle.std.proofs.Common.{suc-le-suc, zero-le};
 ghost use Rattle.std.specs.Prelude.{List, ℕ, ◌≡◌};
 ghost use Rattle.std.specs.Option.{option_map};
 ghost use Rattle.op_parse_code.specs.Opening.{is_identifier};
+ghost use Rattle.op_parse_decl.specs.Begun.{Opens};
 ghost use Rattle.op_parse_decl.specs.Blocks.{known_data};
 ghost use Rattle.op_parse_decl.specs.DeclarationParts.{made_constant, made_definition, made_type, made_variables};
 ghost use Rattle.op_parse_decl.specs.Declarations.{DefinitionBefore, SomeData};
 ghost use Rattle.op_tree.proofs.DeclarationUnique.{begins_data};
 ghost use Rattle.op_tree.specs.Declaration.{Constant, Declaration, TypeDeclaration, TypeDefinition, Variables, constant_of, declaration_of, definition_of, type_of, variables_of};
 ghost use Rattle.op_tree.specs.DeclarationGrammar.{AreVariablesOfOneType, IsConstant, IsTypeDeclaration};
+ghost use Rattle.op_tree.specs.Ends.{IsNot};
 ghost use Rattle.op_tree.specs.Initial.{initial_of};
 
 use crate::choice::{Ahead, Fork, Form, Several, Unless};
@@ -118,7 +120,7 @@ impl Item for Variables {
 pub struct GenericType;
 
 impl Form for GenericType {
-    fn feature(tokens: &[Token]) -> Option<u8> {
+    fn feature(tokens: &[Token]) -> Option<(u8, &[Token])> {
         form_of_type(tokens)
     }
 }
@@ -156,7 +158,7 @@ impl Item for TypeDeclaration {
 pub struct Metaclass;
 
 impl Form for Metaclass {
-    fn feature(tokens: &[Token]) -> Option<u8> {
+    fn feature(tokens: &[Token]) -> Option<(u8, &[Token])> {
         form_of_definition(tokens)
     }
 }
@@ -202,6 +204,8 @@ impl Part for Data {
     ghost says = { λ x. declaration_of x.declaration };
 
     ghost phrase = { SomeData };
+
+    ghost begun = { Opens (IsNot is_identifier) SomeData };
 
     fn read<'a>(setting: Setting, tokens: &'a [Token]) -> Answer<'a, Data> {
         if let Some(after) = behind_mark(Mark::Const_, tokens) {

@@ -1,6 +1,6 @@
 //! Forms that are left out and show among declarations, classes and files.
 ghost use Rattle.std.specs.Prelude.{◌≡◌, ℕ, ◌∷◌, IfSome};
-ghost use Rattle.op_parse_code.specs.Form.{HasForm, begins_class_member};
+ghost use Rattle.op_parse_decl.specs.Form.{HasForm, begins_class_member, begins_generic};
 ghost use Rattle.op_parse_decl.specs.Classes.{IsFormBehindProperty, Resolves, begins_resolution};
 ghost use Rattle.op_scan.specs.declared.token.TokenKind.TheVariants as kind;
 ghost use Rattle.op_tree.specs.Terminal.{◌at◌, terminals};
@@ -37,7 +37,7 @@ pub const INTERFACE_PROPERTY: u8 = 36;
 
 /// The feature of a declaration that stands at the front.
 pub fn form_of_part(tokens: &[Token]) -> Option<u8>
-    ensures { IfSome result (λ feature. HasForm feature (terminals tokens.now) (terminals tokens.now)) }
+    ensures { IfSome result (λ feature. HasForm feature (terminals tokens.now) (terminals tokens.now) (terminals tokens.now)) }
 {
     let (first, rest) = tokens.split_first()?;
     match &first.kind {
@@ -55,7 +55,7 @@ pub fn form_of_part(tokens: &[Token]) -> Option<u8>
 
 /// The word `class` before that of a member.
 fn class_member(rest: &[Token]) -> Option<u8>
-    ensures { (p : Position) → IfSome result (λ feature. HasForm feature (kind.Class at p ∷ terminals rest.now) (kind.Class at p ∷ terminals rest.now)) }
+    ensures { (p : Position) → IfSome result (λ feature. HasForm feature (kind.Class at p ∷ terminals rest.now) (kind.Class at p ∷ terminals rest.now) (kind.Class at p ∷ terminals rest.now)) }
 {
     let (second, _) = rest.split_first()?;
     if let TokenKind::Operator = &second.kind {
@@ -83,7 +83,9 @@ fn begins_class_member(kind: &TokenKind) -> bool
 
 /// The word `generic` before a name or the word of a routine.
 fn generic(first: &TokenKind, rest: &[Token]) -> Option<u8>
-    ensures { (p : Position) → IfSome result (λ feature. HasForm feature (first.now at p ∷ terminals rest.now) (first.now at p ∷ terminals rest.now)) }
+    ensures first { (p : Position) → IfSome result (λ feature. HasForm feature (first.now at p ∷ terminals rest.now) (first.now at p ∷ terminals rest.now) (first.now at p ∷ terminals rest.now)) }
+    // Also where it is taken for a name.
+    ensures second { (p : Position) → IfSome result (λ feature. HasForm feature (first.now at p ∷ terminals rest.now) (first.now at p ∷ terminals rest.now) (terminals rest.now)) }
 {
     let (second, _) = rest.split_first()?;
     if !is_word(b"generic", first) {
@@ -95,38 +97,45 @@ fn generic(first: &TokenKind, rest: &[Token]) -> Option<u8>
     None
 }
 
-fn begins_generic(kind: &TokenKind) -> bool {
+fn begins_generic(kind: &TokenKind) -> bool
+    ensures { result ≡ begins_generic kind.now }
+{
     matches!(
         kind,
         TokenKind::Identifier(_) | TokenKind::Procedure | TokenKind::Function | TokenKind::Class
     )
 }
 
-/// The feature of a type's declaration that stands at the front.
-pub fn form_of_type(tokens: &[Token]) -> Option<u8>
-    ensures { IfSome result (λ feature. HasForm feature (terminals tokens.now) (terminals tokens.now)) }
+/// The feature of the word `generic` at the front, where it is taken for a name, and the tokens behind it.
+pub fn form_of_type(tokens: &[Token]) -> Option<(u8, &[Token])>
+    ensures { IfSome result (λ f. HasForm f.0 (terminals tokens.now) (terminals tokens.now) (terminals f.1.now)) }
 {
     let (first, rest) = tokens.split_first()?;
-    generic(&first.kind, rest)
+    let feature = generic(&first.kind, rest)?;
+    Some((feature, rest))
 }
 
-/// The feature of a class of classes.
-pub fn form_of_definition(tokens: &[Token]) -> Option<u8>
-    ensures { IfSome result (λ feature. HasForm feature (terminals tokens.now) (terminals tokens.now)) }
+/// The feature of a class of classes, and the tokens from `of` on.
+pub fn form_of_definition(tokens: &[Token]) -> Option<(u8, &[Token])>
+    ensures { IfSome result (λ f. HasForm f.0 (terminals tokens.now) (terminals tokens.now) (terminals f.1.now)) }
 {
     let rest = behind_mark(Mark::Class, tokens)?;
     match behind_mark(Mark::Of, rest) {
-        Some(_) => Some(METACLASS),
+        Some(_) => Some((METACLASS, rest)),
         None => None,
     }
 }
 
-/// The feature of what stands in place of a member, and the tokens from the one on that tells it.
-pub fn form_of_member(tokens: &[Token]) -> Option<(u8, &[Token])>
-    ensures { IfSome result (λ f. HasForm f.0 (terminals tokens.now) (terminals f.1.now)) }
+/// The feature of what stands in place of a member, the tokens from the one on that tells it, and those from the one on with which no class
+/// goes on.
+pub fn form_of_member(tokens: &[Token]) -> Option<(u8, &[Token], &[Token])>
+    ensures { IfSome result (λ f. HasForm f.0 (terminals tokens.now) (terminals f.1.now) (terminals f.2.now)) }
 {
+    if let Some((feature, last)) = form_of_type(tokens) {
+        return Some((feature, tokens, last));
+    }
     if let Some(feature) = form_of_part(tokens) {
-        return Some((feature, tokens));
+        return Some((feature, tokens, tokens));
     }
     let (first, rest) = tokens.split_first()?;
     let (second, behind) = rest.split_first()?;
@@ -134,13 +143,13 @@ pub fn form_of_member(tokens: &[Token]) -> Option<(u8, &[Token])>
         return None;
     }
     if is_word(b"strict", &first.kind) {
-        return Some((STRICT_VISIBILITY, tokens));
+        return Some((STRICT_VISIBILITY, tokens, rest));
     }
     if !begins_resolution(&first.kind) {
         return None;
     }
     let form = resolution(behind)?;
-    Some((METHOD_RESOLUTION, form))
+    Some((METHOD_RESOLUTION, form, form))
 }
 
 fn begins_resolution(kind: &TokenKind) -> bool
@@ -176,7 +185,7 @@ pub fn form_behind_property(tokens: &[Token]) -> Option<u8>
 
 /// The feature of a file that begins so.
 pub fn form_of_file(tokens: &[Token]) -> Option<u8>
-    ensures { IfSome result (λ feature. HasForm feature (terminals tokens.now) (terminals tokens.now)) }
+    ensures { IfSome result (λ feature. HasForm feature (terminals tokens.now) (terminals tokens.now) (terminals tokens.now)) }
 {
     let (first, _) = tokens.split_first()?;
     match &first.kind {

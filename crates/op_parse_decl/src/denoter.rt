@@ -1,6 +1,6 @@
 //! Types as they are written, but for classes and interfaces (Free Pascal Reference Guide, "Types").
 ghost use Rattle.std.specs.Prelude.{◌≡◌, ◌∷◌, ◌≤◌, ◌<◌, ℕ, true, false, IfOk, IfErr, length};
-ghost use Rattle.op_parse_decl.specs.Refusal.{RefusesHere};
+ghost use Rattle.op_parse_decl.specs.Refusal.{RefusesPart};
 ghost use Rattle.op_parse_decl.specs.Opening.{lists_names};
 ghost use Rattle.op_parse_decl.specs.Types.{DenoterBehind, DenotersBefore, FieldsBefore, RecordFields, SomeBounded, SomeDenoter, SomeFields, SomeIndices, SomeStructure};
 ghost use Rattle.op_scan.specs.declared.token.TokenKind.TheVariants as kind;
@@ -31,7 +31,7 @@ use op_tree::{Fields, Level, Position, TypeDenoter};
 #[cycle(denoter)]
 pub fn denoter<'a>(setting: Setting, tokens: &'a [Token]) -> Answer<'a, TypeDenoter>
     ensures whole { IfOk result (λ f. SomeDenoter setting.left (denoter_of f.0) (terminals tokens.now) (terminals f.1.now)) }
-    ensures refused { IfErr result (RefusesHere SomeDenoter setting.left setting.end (terminals tokens.now)) }
+    ensures refused { IfErr result (RefusesPart SomeDenoter setting.left setting.end (terminals tokens.now)) }
     ensures shorter { IfOk result (λ f. length f.1.now < length tokens.now) }
 {
     let Some((first, rest)) = tokens.split_first() else {
@@ -74,7 +74,7 @@ pub fn denoter<'a>(setting: Setting, tokens: &'a [Token]) -> Answer<'a, TypeDeno
 #[cycle(denoter)]
 fn set<'a>(setting: Setting, position: Position, tokens: &'a [Token]) -> Answer<'a, TypeDenoter>
     ensures whole { IfOk result (λ f. DenoterBehind kind.Set position setting.left (denoter_of f.0) (terminals tokens.now) (terminals f.1.now)) }
-    ensures refused { IfErr result (RefusesHere (DenoterBehind kind.Set position) setting.left setting.end (terminals tokens.now)) }
+    ensures refused { IfErr result (RefusesPart (DenoterBehind kind.Set position) setting.left setting.end (terminals tokens.now)) }
     ensures shorter { IfOk result (λ f. length f.1.now < length tokens.now) }
 {
     let rest = after_mark(Mark::Of, setting.end, tokens)?;
@@ -87,7 +87,7 @@ fn set<'a>(setting: Setting, position: Position, tokens: &'a [Token]) -> Answer<
 #[cycle(denoter)]
 fn packed<'a>(setting: Setting, position: Position, tokens: &'a [Token]) -> Answer<'a, TypeDenoter>
     ensures whole { IfOk result (λ f. SomeStructure position true setting.left (denoter_of f.0) (terminals tokens.now) (terminals f.1.now)) }
-    ensures refused { IfErr result (RefusesHere (SomeStructure position true) setting.left setting.end (terminals tokens.now)) }
+    ensures refused { IfErr result (RefusesPart (SomeStructure position true) setting.left setting.end (terminals tokens.now)) }
     ensures shorter { IfOk result (λ f. length f.1.now < length tokens.now) }
 {
     match behind_mark(Mark::Array, tokens) {
@@ -108,7 +108,7 @@ fn array<'a>(
     tokens: &'a [Token],
 ) -> Answer<'a, TypeDenoter>
     ensures whole { IfOk result (λ f. (q : Position) → SomeStructure position packed setting.left (denoter_of f.0) (kind.Array at q ∷ terminals tokens.now) (terminals f.1.now)) }
-    ensures refused { IfErr result (λ e. (q : Position) → RefusesHere (SomeStructure position packed) setting.left setting.end (kind.Array at q ∷ terminals tokens.now) e) }
+    ensures refused { IfErr result (λ e. (q : Position) → RefusesPart (SomeStructure position packed) setting.left setting.end (kind.Array at q ∷ terminals tokens.now) e) }
     ensures shorter { IfOk result (λ f. length f.1.now < length tokens.now) }
 {
     let (indices, rest) = indices(setting, tokens)?;
@@ -121,7 +121,7 @@ fn array<'a>(
 #[cycle(denoter)]
 fn indices<'a>(setting: Setting, tokens: &'a [Token]) -> Answer<'a, Vec<TypeDenoter>>
     ensures whole { IfOk result (λ f. SomeIndices setting.left (denoters_of f.0.items) (terminals tokens.now) (terminals f.1.now)) }
-    ensures refused { IfErr result (RefusesHere SomeIndices setting.left setting.end (terminals tokens.now)) }
+    ensures refused { IfErr result (RefusesPart SomeIndices setting.left setting.end (terminals tokens.now)) }
     ensures shorter { IfOk result (λ f. length f.1.now < length tokens.now) }
 {
     match behind_mark(Mark::OpenBracket, tokens) {
@@ -142,7 +142,7 @@ fn indices<'a>(setting: Setting, tokens: &'a [Token]) -> Answer<'a, Vec<TypeDeno
 #[cycle(denoter)]
 fn index_types<'a>(setting: Setting, tokens: &'a [Token]) -> Answer<'a, Vec<TypeDenoter>>
     ensures whole { IfOk result (λ f. DenotersBefore setting.left (denoters_of f.0.items) (terminals tokens.now) (terminals f.1.now)) }
-    ensures refused { IfErr result (RefusesHere DenotersBefore setting.left setting.end (terminals tokens.now)) }
+    ensures refused { IfErr result (RefusesPart DenotersBefore setting.left setting.end (terminals tokens.now)) }
     ensures shorter { IfOk result (λ f. length f.1.now < length tokens.now) }
 {
     let mut types = Vec::new(setting.alloc);
@@ -169,7 +169,7 @@ fn record<'a>(
     tokens: &'a [Token],
 ) -> Answer<'a, TypeDenoter>
     ensures whole { IfOk result (λ f. (q : Position) → SomeStructure position packed setting.left (denoter_of f.0) (kind.Record at q ∷ terminals tokens.now) (terminals f.1.now)) }
-    ensures refused { IfErr result (λ e. (q : Position) → RefusesHere (SomeStructure position packed) setting.left setting.end (kind.Record at q ∷ terminals tokens.now) e) }
+    ensures refused { IfErr result (λ e. (q : Position) → RefusesPart (SomeStructure position packed) setting.left setting.end (kind.Record at q ∷ terminals tokens.now) e) }
     ensures shorter { IfOk result (λ f. length f.1.now < length tokens.now) }
 {
     let (fields, rest) = field_lists(setting, tokens)?;
@@ -181,7 +181,7 @@ fn record<'a>(
 #[cycle(denoter)]
 fn field_lists<'a>(setting: Setting, tokens: &'a [Token]) -> Answer<'a, Vec<Fields>>
     ensures whole { IfOk result (λ f. FieldsBefore setting.left (field_lists_of f.0.items) (terminals tokens.now) (terminals f.1.now)) }
-    ensures refused { IfErr result (λ e. (q : Position) → RefusesHere RecordFields setting.left setting.end (kind.Record at q ∷ terminals tokens.now) e) }
+    ensures refused { IfErr result (λ e. (q : Position) → RefusesPart RecordFields setting.left setting.end (kind.Record at q ∷ terminals tokens.now) e) }
     ensures shorter { IfOk result (λ f. length f.1.now < length tokens.now) }
 {
     let mut lists = Vec::new(setting.alloc);
@@ -209,7 +209,7 @@ fn field_lists<'a>(setting: Setting, tokens: &'a [Token]) -> Answer<'a, Vec<Fiel
 #[cycle(denoter)]
 pub fn fields_of_one_type<'a>(setting: Setting, tokens: &'a [Token]) -> Answer<'a, Fields>
     ensures whole { IfOk result (λ f. SomeFields setting.left (f.0.names, denoter_of f.0.denoter) (terminals tokens.now) (terminals f.1.now)) }
-    ensures refused { IfErr result (RefusesHere SomeFields setting.left setting.end (terminals tokens.now)) }
+    ensures refused { IfErr result (RefusesPart SomeFields setting.left setting.end (terminals tokens.now)) }
     ensures shorter { IfOk result (λ f. length f.1.now < length tokens.now) }
 {
     let (names, rest) = names(setting, tokens)?;
@@ -222,7 +222,7 @@ pub fn fields_of_one_type<'a>(setting: Setting, tokens: &'a [Token]) -> Answer<'
 fn bounded<'a>(setting: Setting, tokens: &'a [Token]) -> Answer<'a, TypeDenoter>
     requires { Begins begins_expression (terminals tokens.now) }
     ensures whole { IfOk result (λ f. SomeBounded setting.left (denoter_of f.0) (terminals tokens.now) (terminals f.1.now)) }
-    ensures refused { IfErr result (RefusesHere SomeBounded setting.left setting.end (terminals tokens.now)) }
+    ensures refused { IfErr result (RefusesPart SomeBounded setting.left setting.end (terminals tokens.now)) }
     ensures shorter { IfOk result (λ f. length f.1.now < length tokens.now) }
 {
     if lists_names(tokens) {
@@ -257,7 +257,7 @@ fn lists_names(tokens: &[Token]) -> bool
 fn enumeration<'a>(setting: Setting, tokens: &'a [Token]) -> Answer<'a, TypeDenoter>
     requires { lists_names (terminals tokens.now) ≡ true }
     ensures whole { IfOk result (λ f. SomeBounded setting.left (denoter_of f.0) (terminals tokens.now) (terminals f.1.now)) }
-    ensures refused { IfErr result (RefusesHere SomeBounded setting.left setting.end (terminals tokens.now)) }
+    ensures refused { IfErr result (RefusesPart SomeBounded setting.left setting.end (terminals tokens.now)) }
     ensures shorter { IfOk result (λ f. length f.1.now < length tokens.now) }
 {
     let Some((first, rest)) = tokens.split_first() else {
@@ -279,7 +279,7 @@ fn subrange_or_name<'a>(setting: Setting, tokens: &'a [Token]) -> Answer<'a, Typ
     requires begins { Begins begins_expression (terminals tokens.now) }
     requires lists { lists_names (terminals tokens.now) ≡ false }
     ensures whole { IfOk result (λ f. SomeBounded setting.left (denoter_of f.0) (terminals tokens.now) (terminals f.1.now)) }
-    ensures refused { IfErr result (RefusesHere SomeBounded setting.left setting.end (terminals tokens.now)) }
+    ensures refused { IfErr result (RefusesPart SomeBounded setting.left setting.end (terminals tokens.now)) }
     ensures shorter { IfOk result (λ f. length f.1.now < length tokens.now) }
 {
     let (first, rest) = chain(
@@ -309,7 +309,7 @@ fn subrange_or_name<'a>(setting: Setting, tokens: &'a [Token]) -> Answer<'a, Typ
 
 /// The same refusal; but where no type stands there, and a form that is left out does, that form.
 fn or_form(error: ParseError, end: Place, tokens: &[Token]) -> ParseError
-    ensures { (d : ℕ) → RefusesHere SomeBounded d end (terminals tokens.now) error → RefusesHere SomeBounded d end (terminals tokens.now) result }
+    ensures { (d : ℕ) → RefusesPart SomeBounded d end (terminals tokens.now) error → RefusesPart SomeBounded d end (terminals tokens.now) result }
 {
     match form_of_bound(tokens) {
         Some((feature, form)) => told(feature, end, form, error),

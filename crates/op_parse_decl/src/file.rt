@@ -3,7 +3,7 @@ ghost use Rattle.std.specs.Prelude.{IfErr, IfOk, List, MatchResult, Option, [], 
 ghost use Rattle.op_parse_code.specs.Refusal.{IsFree, RefusalHasText};
 ghost use Rattle.op_parse_decl.specs.Declarations.{SomeProgram, SomeProgramHeading, SomeUnit, SomeUses, Whole, WholeFile};
 ghost use Rattle.op_parse_decl.specs.FileParts.{made_heading, made_program, made_tail, made_unit, made_uses, tail_of};
-ghost use Rattle.op_parse_decl.specs.Refusal.{RefusesPart};
+ghost use Rattle.op_parse_decl.specs.Refusal.{RefusesPart, RefusesParts};
 ghost use Rattle.op_tree.specs.File.{File, Program, Tail, UnitFile, file_of, program_of, unit_of};
 ghost use Rattle.op_tree.specs.FileGrammar.{IsFile, IsTail, Spells};
 ghost use Rattle.op_tree.specs.Terminal.{terminals};
@@ -13,12 +13,13 @@ ghost use Rattle.op_tree.specs.declared.position.Name.{Name};
 use crate::choice::{Either, Empty, Fork, Unless};
 use crate::code_form::or_form_in_code;
 use crate::declared_form::form_of_file;
+use crate::form::told_at;
 use crate::leaf::{BracketedNames, Here, Statements};
 use crate::part::{Behind, Made, Part, Repeated, Setting, Stands};
 use crate::routine::{Block, InBlock, LeftOut};
 use crate::sign;
 use op_parse_code::ParseError;
-use op_parse_code::shared::{Mark, behind_mark, syntax, told};
+use op_parse_code::shared::{Mark, behind_mark, syntax};
 use op_scan::{Token, Tokens};
 use op_tree::{Declaration, Name, Names, Program, ProgramHeading, Stmt, Tree, Unit};
 use std::alloc::Global;
@@ -55,7 +56,7 @@ fn file(setting: Setting, tokens: &[Token]) -> Result<Tree, ParseError>
     match unit_or_program(setting, tokens) {
         Ok(tree) => Ok(tree),
         Err(error) => match form_of_file(tokens) {
-            Some(feature) => Err(told(feature, setting.end, tokens, error)),
+            Some(feature) => Err(told_at(feature, setting.end, tokens, tokens, error)),
             None => Err(or_form_in_code(setting, tokens, error)),
         },
     }
@@ -80,7 +81,7 @@ fn unit_or_program(setting: Setting, tokens: &[Token]) -> Result<Tree, ParseErro
 /// The part that all of the tokens are.
 fn whole<A: Part>(setting: Setting, tokens: &[Token]) -> Result<A, ParseError>
     ensures whole { IfOk result (λ a. A.phrase setting.left (A.says a) (terminals tokens.now) []) }
-    ensures refused { IfErr result (RefusesPart (Whole A.phrase) setting.left setting.end (terminals tokens.now)) }
+    ensures refused { IfErr result (RefusesParts A.begun (Whole A.phrase) setting.left setting.end (terminals tokens.now)) }
 {
     let (part, rest) = A::read(setting, tokens)?;
     match rest.split_first() {

@@ -1,10 +1,15 @@
 //! Forms that are left out and show among types and parameters.
-ghost use Rattle.std.specs.Prelude.{IfSome, IsTrue};
-ghost use Rattle.op_parse_code.specs.Form.{HasForm};
+ghost use Rattle.std.specs.Prelude.{IfSome, IsTrue, ◌≡◌};
+ghost use Rattle.op_base.specs.declared.place.Place.{Place};
+ghost use Rattle.op_parse_code.specs.Refusal.{place_at};
+ghost use Rattle.op_parse_decl.specs.Form.{TypeForm};
+ghost use Rattle.op_parse_decl.specs.Refusal.{StandsAt, TellsForm};
 ghost use Rattle.op_parse_decl.specs.Opening.{GivesAValue, IsFormOfRecord, IsProcedural};
 ghost use Rattle.op_tree.specs.Terminal.{terminals};
 
-use op_parse_code::shared::{Mark, behind_mark, is_identifier};
+use op_base::Place;
+use op_parse_code::ParseError;
+use op_parse_code::shared::{Mark, behind_mark, is_identifier, told};
 use op_scan::{Token, TokenKind};
 
 pub const PROCEDURAL_TYPE: u8 = 6;
@@ -21,9 +26,47 @@ const SHORT_STRING: u8 = 3;
 
 pub const GIVEN_VALUE: u8 = 31;
 
+/// A refusal; in place of one by rule 9 that by a form that is left out, where the tokens `last` begin with the refused one. The first of
+/// the tokens `form` tells the form.
+pub fn told_at(
+    feature: u8,
+    end: Place,
+    form: &[Token],
+    last: &[Token],
+    error: ParseError,
+) -> ParseError
+    ensures { TellsForm feature end (terminals form.now) (terminals last.now) error result }
+{
+    if refused_there(&error, last) {
+        told(feature, end, form, error)
+    } else {
+        error
+    }
+}
+
+/// The refusal stands at the first of the tokens.
+fn refused_there(error: &ParseError, tokens: &[Token]) -> bool
+    ensures { IsTrue result → (end : Place) → StandsAt error.now (place_at end (terminals tokens.now)) }
+{
+    match error {
+        ParseError::Refused(refusal) => stands_at(tokens, refusal.place),
+        ParseError::NoMemory => false,
+    }
+}
+
+/// The first token stands at a place.
+pub fn stands_at(tokens: &[Token], place: Place) -> bool
+    ensures { IsTrue result → (end : Place) → place ≡ place_at end (terminals tokens.now) }
+{
+    match tokens.split_first() {
+        Some((first, _)) => first.place == place,
+        None => false,
+    }
+}
+
 /// A form that begins as a bound of a subrange does, and the tokens from the one on that tells it.
 pub fn form_of_bound(tokens: &[Token]) -> Option<(u8, &[Token])>
-    ensures { IfSome result (λ f. HasForm f.0 (terminals tokens.now) (terminals f.1.now)) }
+    ensures { IfSome result (λ f. TypeForm f.0 (terminals tokens.now) (terminals f.1.now)) }
 {
     if is_short_string(tokens) {
         return Some((SHORT_STRING, tokens));
@@ -42,7 +85,7 @@ pub fn form_of_bound(tokens: &[Token]) -> Option<(u8, &[Token])>
 
 /// The word `string` and an opening square bracket stand at the front.
 fn is_short_string(tokens: &[Token]) -> bool
-    ensures { IsTrue result → HasForm 3 (terminals tokens.now) (terminals tokens.now) }
+    ensures { IsTrue result → TypeForm 3 (terminals tokens.now) (terminals tokens.now) }
 {
     let Some((first, rest)) = tokens.split_first() else {
         return false;

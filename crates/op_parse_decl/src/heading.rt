@@ -1,10 +1,11 @@
 //! Headings of routines (Free Pascal Reference Guide, "Using functions and procedures").
 ghost use Rattle.std.specs.Prelude.{IfErr, IfOk, IfSome, MatchOption, Option, length, ℕ, ◌<◌, ◌≡◌, ◌≤◌};
+ghost use Rattle.op_parse_decl.specs.Begun.{Anything, Opens};
 ghost use Rattle.op_parse_decl.specs.Combined.{Both, both};
 ghost use Rattle.op_parse_decl.specs.HeadingKnown.{known_routine_kind};
 ghost use Rattle.op_parse_decl.specs.HeadingParts.{known_heading, made_heading, made_name};
 ghost use Rattle.op_parse_decl.specs.Headings.{IsDirective, IsRoutineKind, SomeDirectives, SomeHeading, SomeMethod, SomeRoutineName};
-ghost use Rattle.op_parse_decl.specs.Refusal.{RefusesPart};
+ghost use Rattle.op_parse_decl.specs.Refusal.{Never, RefusesParts};
 ghost use Rattle.op_tree.specs.Declaration.{Heading, heading_of, method_of};
 ghost use Rattle.op_tree.specs.Ends.{NoDirective};
 ghost use Rattle.op_tree.specs.HeadingGrammar.{directive_of, routine_kind_of};
@@ -26,6 +27,8 @@ impl Part for RoutineKind {
     ghost says = { λ x. x };
 
     ghost phrase = { IsRoutineKind };
+
+    ghost begun = { Never };
 
     fn read<'a>(setting: Setting, tokens: &'a [Token]) -> Answer<'a, RoutineKind> {
         let Some((first, rest)) = tokens.split_first() else {
@@ -124,6 +127,8 @@ impl Part for Heading {
 
     ghost phrase = { SomeHeading };
 
+    ghost begun = { Opens Anything SomeHeading };
+
     fn read<'a>(setting: Setting, tokens: &'a [Token]) -> Answer<'a, Heading> {
         let (whole, rest) = WholeHeading::read(setting, tokens)?;
         Ok((whole.heading, rest))
@@ -135,7 +140,7 @@ impl Part for Heading {
 /// A heading, a semicolon, and the directives behind it.
 pub fn method<'a>(setting: Setting, tokens: &'a [Token]) -> Answer<'a, Method>
     ensures whole { IfOk result (λ f. SomeMethod setting.left (method_of f.0) (terminals tokens.now) (terminals f.1.now)) }
-    ensures refused { IfErr result (RefusesPart SomeMethod setting.left setting.end (terminals tokens.now)) }
+    ensures refused { IfErr result (RefusesParts (Opens NoDirective SomeMethod) SomeMethod setting.left setting.end (terminals tokens.now)) }
     ensures shorter { IfOk result (λ f. length f.1.now < length tokens.now) }
 {
     let (heading, rest) = Heading::read(setting, tokens)?;
@@ -152,7 +157,7 @@ pub fn method<'a>(setting: Setting, tokens: &'a [Token]) -> Answer<'a, Method>
 /// All directives at the front.
 pub fn directives<'a>(setting: Setting, tokens: &'a [Token]) -> Answer<'a, Directives>
     ensures whole { IfOk result (λ f. (d : ℕ) → SomeDirectives d f.0 (terminals tokens.now) (terminals f.1.now)) }
-    ensures refused { IfErr result (λ e. (d : ℕ) → RefusesPart SomeDirectives d setting.end (terminals tokens.now) e) }
+    ensures refused { IfErr result (λ e. (d : ℕ) → RefusesParts Never SomeDirectives d setting.end (terminals tokens.now) e) }
     ensures shorter { IfOk result (λ f. length f.1.now ≤ length tokens.now) }
 {
     let mut directives = Vec::new(setting.alloc);

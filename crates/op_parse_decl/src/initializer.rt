@@ -3,8 +3,8 @@ ghost use Rattle.std.specs.Prelude.{◌≡◌, ◌<◌, ◌≤◌, ◌++◌, ℕ
 ghost use Rattle.op_base.specs.declared.place.Place.{Place};
 ghost use Rattle.op_parse_code.proofs.Refusing.{Seq};
 ghost use Rattle.op_parse_code.specs.Opening.{NotTighter};
-ghost use Rattle.op_parse_code.specs.Refusal.{MadeOf, Refuses, refused_at};
-ghost use Rattle.op_parse_decl.specs.Refusal.{RefusesPart, RefusesHere};
+ghost use Rattle.op_parse_code.specs.Refusal.{Decides, MadeOf, Refuses, RefusesBy, refused_at};
+ghost use Rattle.op_parse_decl.specs.Refusal.{RefusesValue, Untold};
 ghost use Rattle.op_parse_code.specs.Whole.{Chain, NoMark, Operand};
 ghost use Rattle.op_parse_code.specs.declared.mark.Mark.TheVariants as mark;
 ghost use Rattle.op_parse_decl.specs.Initials.{Around, AroundFirst, AroundOne, FitsItem, FitsRoom, InitialsBefore, RecordBehind, SomeValue, ValueOf, Within};
@@ -48,7 +48,7 @@ enum Room {
 /// A first value, before what belongs to no expression.
 pub fn initial<'a>(setting: Setting, tokens: &'a [Token]) -> Answer<'a, Initializer>
     ensures whole { IfOk result (λ f. SomeInitial setting.left (initial_of f.0) (terminals tokens.now) (terminals f.1.now)) }
-    ensures refused { IfErr result (RefusesPart SomeInitial setting.left setting.end (terminals tokens.now)) }
+    ensures refused { IfErr result (RefusesValue SomeInitial setting.left setting.end (terminals tokens.now)) }
     ensures shorter { IfOk result (λ f. length f.1.now < length tokens.now) }
 {
     let mut tree = unread(setting.end);
@@ -65,7 +65,7 @@ fn read_initial<'a>(
     tokens: &'a [Token],
 ) -> Result<&'a [Token], ParseError>
     ensures whole { IfOk result (λ rest. SomeInitial setting.left (initial_of tree.new) (terminals tokens.now) (terminals rest.now)) }
-    ensures refused { IfErr result (RefusesPart SomeInitial setting.left setting.end (terminals tokens.now)) }
+    ensures refused { IfErr result (RefusesValue SomeInitial setting.left setting.end (terminals tokens.now)) }
     ensures shorter { IfOk result (λ rest. length rest.now < length tokens.now) }
 {
     let Some((first, _)) = tokens.split_first() else {
@@ -94,7 +94,7 @@ fn in_brackets<'a>(
     tokens: &'a [Token],
 ) -> Result<&'a [Token], ParseError>
     ensures whole { IfOk result (λ rest. Around room setting.left (terminals tokens.now) (λ k. Within k setting.left (initial_of tree.new) (terminals tokens.now) (terminals rest.now))) }
-    ensures refused { IfErr result (λ e. Around room setting.left (terminals tokens.now) (λ k. RefusesPart (Within k) setting.left setting.end (terminals tokens.now) e)) }
+    ensures refused { IfErr result (λ e. Around room setting.left (terminals tokens.now) (λ k. RefusesValue (Within k) setting.left setting.end (terminals tokens.now) e)) }
     ensures shorter { IfOk result (λ rest. length rest.now < length tokens.now) }
 {
     match behind_bracket(tokens) {
@@ -156,7 +156,7 @@ fn value<'a>(
     tokens: &'a [Token],
 ) -> Result<&'a [Token], ParseError>
     ensures whole { IfOk result (λ rest. (x : Expression) × (initial_of tree.new ≡ value x) × SomeValue setting.left x (terminals tokens.now) (terminals rest.now)) }
-    ensures refused { IfErr result (RefusesHere SomeValue setting.left setting.end (terminals tokens.now)) }
+    ensures refused { IfErr result (Refuses SomeValue setting.left setting.end (terminals tokens.now)) }
     ensures shorter { IfOk result (λ rest. length rest.now < length tokens.now) }
 {
     let (value, rest) = chain(
@@ -180,7 +180,7 @@ fn closed<'a>(
     tokens: &'a [Token],
 ) -> Result<&'a [Token], ParseError>
     ensures whole { IfOk result (λ rest. AroundOne position setting.left (initial_of tree.old) (terminals tokens.now) (λ k ks. Within k setting.left (initial_of tree.new) ks (terminals rest.now))) }
-    ensures refused { IfErr result (λ e. AroundOne position setting.left (initial_of tree.old) (terminals tokens.now) (λ k ks. RefusesPart (Within k) setting.left setting.end ks e)) }
+    ensures refused { IfErr result (λ e. AroundOne position setting.left (initial_of tree.old) (terminals tokens.now) (λ k ks. RefusesValue (Within k) setting.left setting.end ks e)) }
     ensures shorter { IfOk result (λ rest. length rest.now ≤ length tokens.now) }
 {
     match replace(tree, unread(setting.end)) {
@@ -212,7 +212,7 @@ fn list_or_record<'a>(
 ) -> Result<&'a [Token], ParseError>
     requires closes { NoMark mark.CloseParenthesis (terminals tokens.now) }
     ensures whole { IfOk result (λ rest. AroundFirst position room (initial_of tree.old) (terminals inside.now) (terminals tokens.now) (λ k d ks. Within k d (initial_of tree.new) ks (terminals rest.now))) }
-    ensures refused { IfErr result (λ e. AroundFirst position room (initial_of tree.old) (terminals inside.now) (terminals tokens.now) (λ k d ks. RefusesPart (Within k) d setting.end ks e)) }
+    ensures refused { IfErr result (λ e. AroundFirst position room (initial_of tree.old) (terminals inside.now) (terminals tokens.now) (λ k d ks. RefusesValue (Within k) d setting.end ks e)) }
     ensures shorter { IfOk result (λ rest. length rest.now < length tokens.now) }
 {
     match behind_mark(Mark::Colon, tokens) {
@@ -241,7 +241,7 @@ fn list_or_record<'a>(
 #[inline(never)]
 fn fits(setting: Setting, first: &Initializer, tokens: &[Token]) -> Result<(), ParseError>
     ensures fits { IfOk result (λ _. FitsItem setting.left (initial_of first.now) (terminals tokens.now)) }
-    ensures refused { IfErr result (λ e. (x : Expression) × (initial_of first.now ≡ value x) × RefusesHere ValueOf setting.left setting.end (terminals tokens.now) e) }
+    ensures refused { IfErr result (λ e. (x : Expression) × (initial_of first.now ≡ value x) × RefusesBy Decides Untold ValueOf setting.left setting.end (terminals tokens.now) e) }
 {
     match first {
         Initializer::Value(_) => {
@@ -263,7 +263,7 @@ fn items<'a>(
     tokens: &'a [Token],
 ) -> Result<&'a [Token], ParseError>
     ensures whole { IfOk result (λ rest. (read : List Initializer) × (items.new.items ≡ items.old.items ++ read) × InitialsBefore setting.left (initials_of read) (terminals tokens.now) (terminals rest.now) × Stops (terminals rest.now)) }
-    ensures refused { IfErr result (RefusesPart (Seq InitialsBefore NoMoreExpression) setting.left setting.end (terminals tokens.now)) }
+    ensures refused { IfErr result (RefusesValue (Seq InitialsBefore NoMoreExpression) setting.left setting.end (terminals tokens.now)) }
     ensures shorter { IfOk result (λ rest. length rest.now < length tokens.now) }
 {
     let mut rest = tokens;
@@ -293,7 +293,7 @@ fn fields<'a>(
     tokens: &'a [Token],
 ) -> Result<&'a [Token], ParseError>
     ensures whole { IfOk result (λ rest. (read : List FieldInitializer) × (others.new.items ≡ others.old.items ++ read) × ((n : Name) (q : Position) → RecordBehind n q setting.left (field_initials n (initial_of tree.new) (field_initials_of read)) (terminals tokens.now) (terminals rest.now))) }
-    ensures refused { IfErr result (λ e. (n : Name) (q : Position) → RefusesPart (RecordBehind n q) setting.left setting.end (terminals tokens.now) e) }
+    ensures refused { IfErr result (λ e. (n : Name) (q : Position) → RefusesValue (RecordBehind n q) setting.left setting.end (terminals tokens.now) e) }
     ensures shorter { IfOk result (λ rest. length rest.now < length tokens.now) }
 {
     let mut rest = read_initial(setting, tree, tokens)?;
@@ -376,7 +376,7 @@ fn record<'a>(
 /// The expression that begins with a root in brackets, from the tokens behind the root.
 fn behind_root<'a>(setting: Setting, root: Root, tokens: &'a [Token]) -> Answer<'a, Expr>
     ensures whole { IfOk result (λ f. (ks : List Terminal) → IsRoot setting.left (root_of root) ks (terminals tokens.now) → SomeValue setting.left (expr_of f.0) ks (terminals f.1.now)) }
-    ensures refused { IfErr result (λ e. (ks : List Terminal) → IsRoot setting.left (root_of root) ks (terminals tokens.now) → RefusesHere SomeValue setting.left setting.end ks e) }
+    ensures refused { IfErr result (λ e. (ks : List Terminal) → IsRoot setting.left (root_of root) ks (terminals tokens.now) → Refuses SomeValue setting.left setting.end ks e) }
     ensures shorter { IfOk result (λ f. length f.1.now ≤ length tokens.now) }
 {
     let (selectors, rest) = selectors(setting.alloc, setting.left, setting.end, tokens)?;

@@ -1,9 +1,10 @@
 //! Interfaces (Free Pascal Reference Guide, "Interfaces").
 ghost use Rattle.std.specs.Prelude.{IfErr, IfOk, List, Option, length, ℕ, ◌+◌, ◌≡◌, ◌≤◌};
-ghost use Rattle.op_parse_code.specs.Refusal.{Refuses};
+ghost use Rattle.op_parse_decl.specs.Begun.{Anything, Opens};
 ghost use Rattle.op_parse_decl.specs.Combined.{Both, both};
 ghost use Rattle.op_parse_decl.specs.InterfaceParts.{known_interface, known_literal, made_head};
 ghost use Rattle.op_parse_decl.specs.Interfaces.{InterfaceBefore, IsLiteral, SomeInterfaceHead, bodiless, is_literal};
+ghost use Rattle.op_parse_decl.specs.Refusal.{Never};
 ghost use Rattle.op_tree.specs.Declaration.{TypeDefinition, definition_of};
 ghost use Rattle.op_tree.specs.Terminal.{terminals};
 ghost use Rattle.op_tree.specs.declared.position.Name.{Name};
@@ -30,6 +31,8 @@ impl Part for Literal {
     ghost says = { λ x. x.text };
 
     ghost phrase = { IsLiteral };
+
+    ghost begun = { Never };
 
     fn read<'a>(setting: Setting, tokens: &'a [Token]) -> Answer<'a, Literal> {
         let Some((first, rest)) = tokens.split_first() else {
@@ -132,6 +135,8 @@ impl Part for InterfaceWhole {
     ghost says = { λ x. definition_of x.definition };
 
     ghost phrase = { InterfaceBefore };
+
+    ghost begun = { Opens Anything InterfaceBefore };
 
     fn read<'a>(setting: Setting, tokens: &'a [Token]) -> Answer<'a, InterfaceWhole> {
         let (head, behind) = InterfaceHead::read(setting, tokens)?;

@@ -2,6 +2,7 @@
 ghost use Rattle.std.proofs.Common.{suc-le-suc, zero-le};
 ghost use Rattle.std.specs.Prelude.{List, ℕ, ◌≡◌};
 ghost use Rattle.op_parse_code.proofs.StatementKnown.{known_name, known_statements};
+ghost use Rattle.op_parse_code.specs.Refusal.{Alive};
 ghost use Rattle.op_parse_code.specs.Whole.{SomeName};
 ghost use Rattle.op_parse_code.specs.WholeStatement.{SomeStatements};
 ghost use Rattle.op_parse_decl.specs.Declarations.{OneDirective, StandsHere, directive_at, is_directive};
@@ -9,6 +10,7 @@ ghost use Rattle.op_parse_decl.specs.InitialKnown.{known_initial};
 ghost use Rattle.op_parse_decl.specs.KnownLeaves.{known_directive, known_here};
 ghost use Rattle.op_parse_decl.specs.KnownTypes.{known_bracketed_names, known_denoter, known_names};
 ghost use Rattle.op_parse_decl.specs.Opening.{is_open};
+ghost use Rattle.op_parse_decl.specs.Refusal.{Never};
 ghost use Rattle.op_parse_decl.specs.Types.{SomeBracketedNames, SomeDenoter, SomeInitial, SomeNames};
 ghost use Rattle.op_tree.specs.Denoter.{Denoter, denoter_of};
 ghost use Rattle.op_tree.specs.Initial.{Initial, initial_of};
@@ -34,6 +36,8 @@ impl Part for Name {
 
     ghost phrase = { SomeName };
 
+    ghost begun = { Never };
+
     fn read<'a>(setting: Setting, tokens: &'a [Token]) -> Answer<'a, Name> {
         name(setting.alloc, setting.end, tokens)
     }
@@ -47,6 +51,8 @@ impl Part for Names {
     ghost says = { λ x. x };
 
     ghost phrase = { SomeNames };
+
+    ghost begun = { Never };
 
     fn read<'a>(setting: Setting, tokens: &'a [Token]) -> Answer<'a, Names> {
         let (names, rest) = names(setting, tokens)?;
@@ -63,6 +69,8 @@ impl Part for TypeDenoter {
 
     ghost phrase = { SomeDenoter };
 
+    ghost begun = { Alive SomeDenoter };
+
     fn read<'a>(setting: Setting, tokens: &'a [Token]) -> Answer<'a, TypeDenoter> {
         denoter(setting, tokens)
     }
@@ -76,6 +84,8 @@ impl Part for Initializer {
     ghost says = { initial_of };
 
     ghost phrase = { SomeInitial };
+
+    ghost begun = { Alive SomeInitial };
 
     fn read<'a>(setting: Setting, tokens: &'a [Token]) -> Answer<'a, Initializer> {
         initial(setting, tokens)
@@ -96,6 +106,8 @@ impl Part for FirstValue {
     ghost says = { λ x. initial_of x.value.value };
 
     ghost phrase = { SomeInitial };
+
+    ghost begun = { Alive SomeInitial };
 
     fn read<'a>(setting: Setting, tokens: &'a [Token]) -> Answer<'a, FirstValue> {
         let (first, rest) = initial(setting, tokens)?;
@@ -118,6 +130,8 @@ impl Part for BracketedNames {
     ghost says = { λ x. x.names };
 
     ghost phrase = { SomeBracketedNames };
+
+    ghost begun = { Alive SomeBracketedNames };
 
     fn read<'a>(setting: Setting, tokens: &'a [Token]) -> Answer<'a, BracketedNames> {
         let (names, rest) = bracketed_names(setting, tokens)?;
@@ -150,6 +164,8 @@ impl Part for Statements {
 
     ghost phrase = { SomeStatements };
 
+    ghost begun = { Alive SomeStatements };
+
     ghost least = { 0 };
 
     fn read<'a>(setting: Setting, tokens: &'a [Token]) -> Answer<'a, Statements> {
@@ -176,6 +192,8 @@ impl Part for Directive {
     ghost says = { λ x. x };
 
     ghost phrase = { OneDirective };
+
+    ghost begun = { Never };
 
     fn read<'a>(setting: Setting, tokens: &'a [Token]) -> Answer<'a, Directive> {
         let Some((first, rest)) = tokens.split_first() else {
@@ -213,6 +231,8 @@ impl Part for Here {
     ghost says = { λ x. x.position };
 
     ghost phrase = { StandsHere };
+
+    ghost begun = { Never };
 
     ghost least = { 0 };
 

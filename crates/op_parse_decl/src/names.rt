@@ -1,6 +1,6 @@
 //! Lists of names.
 ghost use Rattle.std.specs.Prelude.{ℕ, ◌<◌, IfOk, IfErr, length};
-ghost use Rattle.op_parse_decl.specs.Refusal.{RefusesHere};
+ghost use Rattle.op_parse_decl.specs.Refusal.{RefusesHere, RefusesPart};
 ghost use Rattle.op_parse_decl.specs.Types.{SomeBracketedNames, SomeNames, SomeQualified};
 ghost use Rattle.op_tree.specs.Terminal.{terminals};
 
@@ -31,7 +31,7 @@ pub fn names<'a>(setting: Setting, tokens: &'a [Token]) -> Answer<'a, Names>
 /// Names in brackets, at least one.
 pub fn bracketed_names<'a>(setting: Setting, tokens: &'a [Token]) -> Answer<'a, Names>
     ensures whole { IfOk result (λ f. SomeBracketedNames setting.left f.0 (terminals tokens.now) (terminals f.1.now)) }
-    ensures refused { IfErr result (RefusesHere SomeBracketedNames setting.left setting.end (terminals tokens.now)) }
+    ensures refused { IfErr result (RefusesPart SomeBracketedNames setting.left setting.end (terminals tokens.now)) }
     ensures shorter { IfOk result (λ f. length f.1.now < length tokens.now) }
 {
     let rest = after_mark(Mark::OpenParenthesis, setting.end, tokens)?;

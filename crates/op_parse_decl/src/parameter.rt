@@ -1,9 +1,11 @@
 //! Parameters of routines (Free Pascal Reference Guide, "Parameter lists").
 ghost use Rattle.std.specs.Prelude.{IfSome, List, MatchOption, length, ◌≡◌, ◌≤◌};
+ghost use Rattle.op_parse_decl.specs.Begun.{Anything, Opens};
 ghost use Rattle.op_parse_decl.specs.Combined.{Both, both};
 ghost use Rattle.op_parse_decl.specs.HeadingKnown.{known_moded, known_parameter_type};
 ghost use Rattle.op_parse_decl.specs.HeadingParts.{known_part, made_parameter, made_part};
 ghost use Rattle.op_parse_decl.specs.Headings.{NoOut, SomeMode, SomeModed, SomeParameter, SomeParameterPart, SomeParameterType, is_string};
+ghost use Rattle.op_parse_decl.specs.Refusal.{Never};
 ghost use Rattle.op_tree.specs.Terminal.{terminals};
 ghost use Rattle.op_tree.specs.declared.heading.Parameter.{Parameter};
 ghost use Rattle.op_tree.specs.declared.heading.ParameterMode.{ParameterMode};
@@ -13,11 +15,13 @@ ghost use Rattle.op_tree.specs.declared.position.Name.{Name};
 
 use crate::choice::{Ahead, Empty, Form, FormBehind, Nested, Unbroken, Unless};
 use crate::form::{ARRAY_OF_CONST, DEFAULT_PARAMETER};
-use crate::names::qualified;
+use crate::names::{names, qualified};
 use crate::part::{Answer, Behind, Made, Part, Separated, Setting, Stands};
 use crate::sign;
 use crate::stops::no_dot;
-use op_parse_code::shared::{Mark, behind_mark, is_identifier, is_word, position_of, syntax};
+use op_parse_code::shared::{
+    Mark, after_mark, behind_mark, is_identifier, is_word, position_of, syntax,
+};
 use op_scan::{Token, TokenKind};
 use op_tree::{Names, Parameter, ParameterMode, ParameterType, Parameters};
 use std::alloc::Global;
@@ -36,9 +40,12 @@ impl Part for Moded {
 
     ghost phrase = { SomeModed };
 
+    ghost begun = { Never };
+
     fn read<'a>(setting: Setting, tokens: &'a [Token]) -> Answer<'a, Moded> {
         let (mode, rest) = parameter_mode(tokens);
-        let ((names, _), rest) = <(Names, Stands<sign::Colon>)>::read(setting, rest)?;
+        let (names, rest) = names(setting, rest)?;
+        let rest = after_mark(Mark::Colon, setting.end, rest)?;
         Ok((Moded { mode, names }, rest))
     }
 
@@ -82,11 +89,11 @@ fn behind_out(tokens: &[Token]) -> Option<&[Token]>
 pub struct ArrayOfConst;
 
 impl Form for ArrayOfConst {
-    fn feature(tokens: &[Token]) -> Option<u8> {
+    fn feature(tokens: &[Token]) -> Option<(u8, &[Token])> {
         let rest = behind_mark(Mark::Array, tokens)?;
         let rest = behind_mark(Mark::Of, rest)?;
         match behind_mark(Mark::Const_, rest) {
-            Some(_) => Some(ARRAY_OF_CONST),
+            Some(_) => Some((ARRAY_OF_CONST, rest)),
             None => None,
         }
     }
@@ -99,6 +106,8 @@ impl Part for ParameterType {
     ghost says = { λ x. x };
 
     ghost phrase = { SomeParameterType };
+
+    ghost begun = { Never };
 
     fn read<'a>(setting: Setting, tokens: &'a [Token]) -> Answer<'a, ParameterType> {
         let Some((first, rest)) = tokens.split_first() else {
@@ -220,6 +229,8 @@ impl Part for Parameters {
     ghost says = { λ x. x };
 
     ghost phrase = { SomeParameterPart };
+
+    ghost begun = { Opens Anything SomeParameterPart };
 
     ghost least = { 0 };
 

@@ -1,7 +1,8 @@
 //! Parser combinators: parts, and how they are put together, one behind another, behind a mark, as many as stand there.
 ghost use Rattle.std.specs.Prelude.{◌≡◌, ℕ, ◌+◌, ◌≤◌, ◌<◌, Bool, IfOk, IfErr, List, Option, length, map};
 ghost use Rattle.std.specs.Option.{option_map};
-ghost use Rattle.op_parse_decl.specs.Refusal.{RefusesPart};
+ghost use Rattle.op_parse_decl.specs.Begun.{BehindBegun, RepeatsBegun, SeparatedBegun, ThenBegun};
+ghost use Rattle.op_parse_decl.specs.Refusal.{Never, RefusesParts};
 ghost use Rattle.op_parse_code.specs.WholeStatement.{front_is};
 ghost use Rattle.op_parse_code.specs.declared.mark.Mark.{Mark};
 ghost use Rattle.op_parse_code.proofs.Refusing.{Known};
@@ -37,13 +38,16 @@ pub trait Part: Drop {
 
     ghost phrase: { ℕ → Said → List Terminal → List Terminal → Type 0 };
 
+    // What is shown where one in it is nested too deep.
+    ghost begun: { ℕ → List Terminal → List Terminal → Type 0 };
+
     // The fewest tokens of it.
     ghost least: { ℕ } = { 1 };
 
     /// The part at the front, and what stands behind it.
     fn read<'a>(setting: Setting, tokens: &'a [Token]) -> Answer<'a, Self>
         ensures whole { IfOk result (λ f. phrase setting.left (says f.0) (terminals tokens.now) (terminals f.1.now)) }
-        ensures refused { IfErr result (RefusesPart phrase setting.left setting.end (terminals tokens.now)) }
+        ensures refused { IfErr result (RefusesParts begun phrase setting.left setting.end (terminals tokens.now)) }
         ensures shorter { IfOk result (λ f. length f.1.now + least ≤ length tokens.now) };
 
     ghost known: { Known phrase };
@@ -55,6 +59,8 @@ impl<A: Part, B: Part> Part for (A, B) {
     ghost says = { λ x. both (A.says x.0) (B.says x.1) };
 
     ghost phrase = { Then A.phrase B.phrase };
+
+    ghost begun = { ThenBegun A.begun A.phrase B.begun };
 
     ghost least = { A.least + B.least };
 
@@ -80,6 +86,8 @@ impl<S: Sign> Part for Stands<S> {
 
     ghost phrase = { Stands S.sign };
 
+    ghost begun = { Never };
+
     fn read<'a>(setting: Setting, tokens: &'a [Token]) -> Answer<'a, Stands<S>> {
         let rest = after_mark(S::sign(), setting.end, tokens)?;
         Ok((Stands { sign: PhantomData }, rest))
@@ -101,6 +109,8 @@ impl<S: Sign, A: Part> Part for Behind<S, A> {
     ghost says = { λ x. option_map A.says x.part };
 
     ghost phrase = { Behind S.sign A.phrase };
+
+    ghost begun = { BehindBegun S.sign A.begun };
 
     ghost least = { 0 };
 
@@ -153,6 +163,8 @@ impl<A: Item> Part for Repeated<A> {
 
     ghost phrase = { Repeats A.test A.phrase };
 
+    ghost begun = { RepeatsBegun A.test A.phrase A.begun };
+
     ghost least = { 0 };
 
     fn read<'a>(setting: Setting, tokens: &'a [Token]) -> Answer<'a, Repeated<A>> {
@@ -183,6 +195,8 @@ impl<S: Sign, A: Part> Part for Separated<S, A> {
     ghost says = { λ x. map A.says x.items.items };
 
     ghost phrase = { Separated S.sign A.phrase };
+
+    ghost begun = { SeparatedBegun S.sign A.phrase A.begun };
 
     ghost least = { A.least };
 
@@ -229,6 +243,8 @@ impl<T: Made> Part for T {
     ghost says = { T.says };
 
     ghost phrase = { T.phrase };
+
+    ghost begun = { T.Parts.begun };
 
     ghost least = { T.Parts.least };
 

@@ -2,7 +2,7 @@
 ghost use Rattle.std.specs.Prelude.{IfErr, IfOk, Option, codes, length, ℕ, ◌≤◌};
 ghost use Rattle.op_parse_decl.specs.Combined.{Both, both};
 ghost use Rattle.op_parse_decl.specs.Properties.{SomeAccessor, SomeAccessors, known_accessors, made_property};
-ghost use Rattle.op_parse_decl.specs.Refusal.{RefusesPart};
+ghost use Rattle.op_parse_decl.specs.Refusal.{Never, RefusesParts};
 ghost use Rattle.op_tree.specs.Declaration.{Property, property_of};
 ghost use Rattle.op_tree.specs.HeadingGrammar.{IsProperty};
 ghost use Rattle.op_tree.specs.Terminal.{terminals};
@@ -61,6 +61,8 @@ impl Part for Accessors {
 
     ghost phrase = { SomeAccessors };
 
+    ghost begun = { Never };
+
     ghost least = { 0 };
 
     fn read<'a>(setting: Setting, tokens: &'a [Token]) -> Answer<'a, Accessors> {
@@ -75,7 +77,7 @@ impl Part for Accessors {
 /// The name behind a word, if the word stands there.
 fn accessor<'a>(setting: Setting, word: &[u8], tokens: &'a [Token]) -> Answer<'a, Option<Name>>
     ensures whole { IfOk result (λ f. (d : ℕ) → SomeAccessor word.now d f.0 (terminals tokens.now) (terminals f.1.now)) }
-    ensures refused { IfErr result (λ e. (d : ℕ) → RefusesPart (SomeAccessor word.now) d setting.end (terminals tokens.now) e) }
+    ensures refused { IfErr result (λ e. (d : ℕ) → RefusesParts Never (SomeAccessor word.now) d setting.end (terminals tokens.now) e) }
     ensures shorter { IfOk result (λ f. length f.1.now ≤ length tokens.now) }
 {
     let Some((first, rest)) = tokens.split_first() else {

@@ -1,11 +1,14 @@
 //! Declarations in a row, and routines with what is declared in them (Free Pascal Reference Guide, "Using functions and
 //! procedures").
 ghost use Rattle.std.proofs.Common.{suc-le-suc, zero-le};
-ghost use Rattle.std.specs.Prelude.{IfErr, IfOk, IfSome, MatchOption, length, ◌<◌, ◌≡◌, ◌≤◌};
+ghost use Rattle.std.specs.Prelude.{IfErr, IfOk, IfSome, MatchOption, length, true, ◌<◌, ◌≡◌, ◌≤◌};
+ghost use Rattle.op_parse_code.specs.Opening.{is_identifier};
+ghost use Rattle.op_parse_code.specs.WholeStatement.{front_is};
+ghost use Rattle.op_parse_decl.specs.Begun.{Anything, Opens};
 ghost use Rattle.op_parse_decl.specs.Blocks.{known_declarations, made_interface_declaration};
 ghost use Rattle.op_parse_decl.specs.DeclarationParts.{made_method};
-ghost use Rattle.op_parse_decl.specs.Declarations.{AllOf, BehindForward, BlockDeclaration, BodyBefore, InterfaceDeclaration, WholeMethod, begins_declaration, is_forward};
-ghost use Rattle.op_parse_decl.specs.Refusal.{RefusesPart};
+ghost use Rattle.op_parse_decl.specs.Declarations.{AllOf, BehindForward, BlockDeclaration, BodyBefore, EndsBlockDeclarations, InterfaceDeclaration, WholeMethod, begins_declaration, is_forward};
+ghost use Rattle.op_parse_decl.specs.Refusal.{RefusesParts};
 ghost use Rattle.op_tree.proofs.MethodUnique.{begins_heading};
 ghost use Rattle.op_tree.specs.Declaration.{Declaration, Declarations, Method, body, body_of, declaration_of, declarations_of, method_of};
 ghost use Rattle.op_tree.specs.Ends.{IsNot};
@@ -27,8 +30,9 @@ use std::alloc::Global;
 pub struct LeftOut;
 
 impl Form for LeftOut {
-    fn feature(tokens: &[Token]) -> Option<u8> {
-        form_of_part(tokens)
+    fn feature(tokens: &[Token]) -> Option<(u8, &[Token])> {
+        let feature = form_of_part(tokens)?;
+        Some((feature, tokens))
     }
 }
 
@@ -118,6 +122,8 @@ impl Part for InBlock {
 
     ghost phrase = { AllOf BlockDeclaration };
 
+    ghost begun = { Opens EndsBlockDeclarations (AllOf BlockDeclaration) };
+
     ghost least = { 0 };
 
     fn read<'a>(setting: Setting, tokens: &'a [Token]) -> Answer<'a, InBlock> {
@@ -132,7 +138,7 @@ impl Part for InBlock {
 #[cycle(declaration)]
 fn declarations<'a>(setting: Setting, tokens: &'a [Token]) -> Answer<'a, Vec<Declaration>>
     ensures whole { IfOk result (λ f. AllOf BlockDeclaration setting.left (declarations_of f.0.items) (terminals tokens.now) (terminals f.1.now)) }
-    ensures refused { IfErr result (RefusesPart (AllOf BlockDeclaration) setting.left setting.end (terminals tokens.now)) }
+    ensures refused { IfErr result (RefusesParts (Opens EndsBlockDeclarations (AllOf BlockDeclaration)) (AllOf BlockDeclaration) setting.left setting.end (terminals tokens.now)) }
     ensures shorter { IfOk result (λ f. length f.1.now ≤ length tokens.now) }
 {
     let mut items = Vec::new(setting.alloc);
@@ -148,8 +154,9 @@ fn declarations<'a>(setting: Setting, tokens: &'a [Token]) -> Answer<'a, Vec<Dec
 /// One declaration. A routine is counted.
 #[cycle(declaration)]
 fn declaration<'a>(setting: Setting, tokens: &'a [Token]) -> Answer<'a, Declaration>
+    requires begins { front_is begins_declaration (terminals tokens.now) ≡ true }
     ensures whole { IfOk result (λ f. BlockDeclaration setting.left (declaration_of f.0) (terminals tokens.now) (terminals f.1.now)) }
-    ensures refused { IfErr result (RefusesPart BlockDeclaration setting.left setting.end (terminals tokens.now)) }
+    ensures refused { IfErr result (RefusesParts (Opens (IsNot is_identifier) BlockDeclaration) BlockDeclaration setting.left setting.end (terminals tokens.now)) }
     ensures shorter { IfOk result (λ f. length f.1.now < length tokens.now) }
 {
     if begins::<Data>(tokens) {
@@ -172,7 +179,7 @@ fn declaration<'a>(setting: Setting, tokens: &'a [Token]) -> Answer<'a, Declarat
 #[cycle(declaration)]
 fn body<'a>(setting: Setting, tokens: &'a [Token]) -> Answer<'a, Body>
     ensures whole { IfOk result (λ f. BodyBefore setting.left (body_of f.0) (terminals tokens.now) (terminals f.1.now)) }
-    ensures refused { IfErr result (RefusesPart BodyBefore setting.left setting.end (terminals tokens.now)) }
+    ensures refused { IfErr result (RefusesParts (Opens Anything BodyBefore) BodyBefore setting.left setting.end (terminals tokens.now)) }
     ensures shorter { IfOk result (λ f. length f.1.now < length tokens.now) }
 {
     if let Some(rest) = behind_forward(tokens) {

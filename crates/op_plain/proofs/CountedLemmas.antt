@@ -1,13 +1,13 @@
 -- The bodies of a program that passes the test are counted, and each statement but the empty one has a node.
 use Rattle.std.proofs.Common.{◌≡◌, inl, inr, ℕ, Bool, true, false, ◌&&◌, List, [], ◌∷◌, refl}
-use Rattle.std.proofs.lemmas.Bool.{and_parts}
+use Rattle.std.proofs.lemmas.Bool.{and_parts, ltb-true}
 use Rattle.std.specs.List.{list_all}
 use Rattle.op_core.specs.Expression.{Expression, expression, Root, constant, variable, object, call, construct, set, eof, eoln, Steps, no_steps, steps, Action, index, operate, Elements, no_elements, elements, Element, one, range, Arguments, no_arguments, arguments, Argument, value, place, array, listed}
 use Rattle.op_core.specs.Statement.{Item, plain, padded, BuiltIn, write, read, count, set_length, include, exclude, val, str, free, destroy, Statement, empty, block, if_then, if_else, case_of, while_do, repeat_until, for_to, for_in, try_finally, try_on, try_on_else, raise, reraise, call as call_statement, assign, exit, exit_with, break, continue, halt, built_in, Statements, no_statements, statements, Branches, no_branches, branches}
 use Rattle.op_core.specs.declared.ids.TypeId.{TypeId}
 use Rattle.op_core.specs.declared.program.Core.{Core}
 use Rattle.op_frames.specs.Counted.{AreCountedArguments, AreCountedBranches, AreCountedElements, AreCountedItems, AreCountedStatements, AreCountedSteps, IsCounted, IsCountedAction, IsCountedAmount, IsCountedArgument, IsCountedBuiltIn, IsCountedElement, IsCountedItem, IsCountedRoot, IsCountedStatement, AreCountedLabels}
-use Rattle.op_plain.proofs.Parts.{below, failed}
+use Rattle.op_plain.proofs.Parts.{failed}
 use Rattle.op_plain.specs.Plain.{are_nodes, are_plain_arguments, are_plain_branches, are_plain_elements, are_plain_statements, are_plain_steps, is_plain_amount, is_plain_argument, is_plain_bare, is_plain_built_in, is_plain_element, is_plain_expression, is_plain_item, is_plain_root, is_plain_statement, is_plain_step}
 use Rattle.op_typing.specs.Simple.{is_text, text_after}
 use Rattle.op_core.specs.declared.statement.Label.{Label}
@@ -27,7 +27,7 @@ module _ (texts : List ℕ → Bool) (core : Core) where
     expression_counted (expression root of others) e = both (root_counted root of) (λ f. steps_counted others (is_text root) (and_parts _ _ f).1) e
 
     root_counted : (root : Root) (of : TypeId) → is_plain_root texts core root of ≡ true → IsCountedRoot root
-    root_counted (constant v nodes words) of e = below 0 nodes (and_parts _ _ e).0
+    root_counted (constant v nodes words) of e = ltb-true 0 nodes (and_parts _ _ e).0
     root_counted (variable id) of e = tt
     root_counted (object id) of e = failed e
     root_counted (call id given) of e = arguments_counted given (and_parts _ _ e).1
@@ -95,7 +95,7 @@ module _ (texts : List ℕ → Bool) (core : Core) where
 
   labels_counted : (labels : List Label) → are_nodes labels ≡ true → AreCountedLabels labels
   labels_counted [] e = tt
-  labels_counted (l ∷ ls) e = (below 0 l.nodes (and_parts _ _ e).0, labels_counted ls (and_parts _ _ e).1)
+  labels_counted (l ∷ ls) e = (ltb-true 0 l.nodes (and_parts _ _ e).0, labels_counted ls (and_parts _ _ e).1)
 
   mutual
     statement_counted : (s : Statement) → is_plain_statement texts core s ≡ true → IsCountedStatement s

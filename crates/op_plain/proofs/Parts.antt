@@ -1,7 +1,6 @@
 -- The parts of the test of a program.
-use Rattle.std.proofs.Common.{◌≡◌, ◌<◌, ℕ, true, false, nat_lt, sym, true≢false, arith, nat_le, length}
-use Rattle.std.proofs.lemmas.Bool.{and_parts, not-true}
-use Rattle.std.proofs.lemmas.Bool.Decides.{nat_tests}
+use Rattle.std.proofs.Common.{◌≡◌, true, false, sym, true≢false, nat_le, length}
+use Rattle.std.proofs.lemmas.Bool.{and_parts, ltb-true, not-true}
 use Rattle.std.specs.List.{list_all}
 use Rattle.op_core.specs.declared.program.Core.{Core}
 use Rattle.op_meaning.specs.Shapes.{is_managed, no_type}
@@ -10,9 +9,6 @@ use Rattle.op_typing.specs.SimpleTests.{is_counted, is_none, is_short_text, is_s
 
 pub failed : {A : Type 0} → false ≡ true → A
 failed e = absurd (true≢false (sym e))
-
-pub below : (a b : ℕ) → nat_lt a b ≡ true → a < b
-below a b h = grind (arith, nat_tests)
 
 pub record Tests (core : Core) : Type 0 where
   pub exceptions : is_none core.exceptions ≡ true

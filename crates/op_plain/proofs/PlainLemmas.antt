@@ -1,22 +1,19 @@
 -- A program that passes the test is of the class.
-use Rattle.std.proofs.Common.{◌≡◌, ◌<◌, ◌≤◌, ℕ, zero, suc, ◌+◌, Bool, true, false, ◌&&◌, if◌then◌else◌, Option, Some, None, List, [], ◌∷◌, length, slice_get, filter, flat_map, map, reverse, take, drop, refl, ap, subst, arith, nat_le}
+use Rattle.std.proofs.Common.{◌≡◌, ◌<◌, ◌≤◌, ℕ, zero, suc, ◌+◌, Bool, true, false, Option, Some, None, List, [], ◌∷◌, length, slice_get, map, reverse, take, drop, refl, ap, arith, nat_le, subst}
 use Rattle.std.proofs.lemmas.Bool.{and_parts, not-true}
 use Rattle.std.proofs.lemmas.Bool.Decides.{nat_tests}
-use Rattle.std.proofs.lemmas.List.Elements.{All-cons, All-nil}
 use Rattle.std.proofs.lemmas.Option.{slice_get_within}
-use Rattle.std.specs.List.{All, list_all}
+use Rattle.std.specs.List.{list_all}
+use Rattle.op_base.proofs.Lists.{passes_at}
 use Rattle.op_constants.specs.Offsets.{size_in}
 use Rattle.op_core.specs.Rows.{rows}
 use Rattle.op_core.specs.Statement.{stmts_of}
 use Rattle.op_core.specs.declared.ids.Run.{Run}
 use Rattle.op_core.specs.declared.ids.RoutineId.{RoutineId}
 use Rattle.op_core.specs.declared.ids.TypeId.{TypeId}
-use Rattle.op_core.specs.declared.ids.VariableId.{VariableId}
 use Rattle.op_core.specs.declared.program.Core.{Core}
 use Rattle.op_core.specs.declared.program.Unit.{Unit as UnitRow}
 use Rattle.op_core.specs.declared.routine.Body.{Body}
-use Rattle.op_core.specs.declared.routine.Owner.{Owner}
-use Rattle.op_core.specs.declared.routine.Owner.TheVariants.{Unit as OfUnit}
 use Rattle.op_core.specs.declared.routine.Role.{Role}
 use Rattle.op_core.specs.declared.routine.Role.TheVariants.{Plain, Constant, Parameter, Object, Result, Handler}
 use Rattle.op_core.specs.declared.routine.Routine.{Routine}
@@ -25,10 +22,10 @@ use Rattle.op_expand.specs.Frames.{parameters_of}
 use Rattle.op_frames.specs.Charged.{IsCharged}
 use Rattle.op_frames.specs.Counted.{AreCountedStatements}
 use Rattle.op_frames.specs.Made.{Every}
-use Rattle.op_meaning.specs.Calls.{ended_variables, ending_of}
 use Rattle.op_meaning.specs.Frames.{empty_global, program_of}
-use Rattle.op_meaning.specs.Shapes.{is_managed, type_of_variable, variables_of}
+use Rattle.op_meaning.specs.Shapes.{is_managed, variables_of}
 use Rattle.op_meaning.specs.Start.{first_pending}
+use Rattle.op_mir.proofs.Unmanaged.{ending_by_row, no_globals}
 use Rattle.op_mir.specs.Plain.{ArePlainUnits, IfExists}
 use Rattle.op_plain.proofs.CountedLemmas.{statements_counted}
 use Rattle.op_plain.proofs.Parts.{Tests, failed, tests_of}
@@ -37,23 +34,10 @@ use Rattle.op_plain.proofs.WrittenLemmas.{statements_written}
 use Rattle.op_plain.specs.Claims.{IsPlainCore, PlainByItems}
 use Rattle.op_plain.specs.Plain.{is_plain_body, is_plain_program, is_plain_result, is_plain_role, is_plain_routine, is_plain_unit, is_plain_variable, takes_few, most_units}
 use Rattle.op_sizes.specs.Written.{AreWrittenStatements}
-use Rattle.op_typing.proofs.SimpleTestLemmas.{simple_by_test}
+use Rattle.op_typing.proofs.SimpleTestLemmas.{none_is, of_unit, simple_by_test}
 use Rattle.op_typing.specs.SimpleTests.{begins_itself, gives_nothing, is_none, is_of_unit, is_procedure, is_short_text, is_solid_type}
 
-none_is : {A : Type 0} (o : Option A) → is_none o ≡ true → o ≡ None
-none_is None e = refl
-none_is (Some a) e = failed e
-
 -- ---- lists
-
-passes_at : {A : Type 0} (test : A → Bool) (xs : List A) (k : ℕ) (x : A) → list_all test xs ≡ true → slice_get xs k ≡ Some x → test x ≡ true
-passes_at test [] k x all there = absurd cc
-passes_at test (y ∷ ys) zero x all there = let same : y ≡ x = cc in subst (λ z. test z ≡ true) same (and_parts (test y) (list_all test ys) all).0
-passes_at test (y ∷ ys) (suc k) x all there = passes_at test ys k x (and_parts (test y) (list_all test ys) all).1 there
-
-all_pass : {A : Type 0} (test : A → Bool) (P : A → Type 0) (xs : List A) → ((x : A) → test x ≡ true → P x) → list_all test xs ≡ true → All P xs
-all_pass test P [] f all = All-nil P
-all_pass test P (x ∷ xs) f all = let parts = and_parts (test x) (list_all test xs) all in All-cons P x xs (f x parts.0) (all_pass test P xs f parts.1)
 
 every_pass : {A : Type 0} (test : A → Bool) (Q : A → Type 0) (xs : List A) → ((x : A) → test x ≡ true → Q x) → list_all test xs ≡ true → Every Q xs
 every_pass test Q [] f all = tt
@@ -73,10 +57,6 @@ every_row : {A : Type 0} (Q : A → Type 0) (run : Run) (table : List A) → Eve
 every_row Q run table each = every_taken Q run.count (drop run.first table) (every_dropped Q run.first table each)
 
 -- ---- parts of the test
-
-owner_is : (owner : Owner) → is_of_unit owner ≡ true → owner ≡ OfUnit
-owner_is OfUnit e = refl
-owner_is _ e = failed e
 
 role_charged : (role : Role) → is_plain_role role ≡ true → IsCharged role
 role_charged Object e = failed e
@@ -105,24 +85,8 @@ module _ (core : Core) (tests : Tests core) where
   unmanaged_at : (k : ℕ) (v : Variable) → slice_get core.variables k ≡ Some v → is_managed core v.of ≡ false
   unmanaged_at k v there = unmanaged_variable v (passes_at (is_plain_variable core) core.variables k v tests.variables there)
 
-  ended_none : (role managed : Bool) (k : ℕ) → managed ≡ false → (if role && managed then k ∷ [] else []) ≡ []
-  ended_none true managed k is = ap (λ m. if m then k ∷ [] else []) is
-  ended_none false managed k is = refl
-
-  ended_by : (r k : ℕ) (v : Option Variable) → slice_get core.variables ((variables_of core r).first + k) ≡ v → ended_variables core r k ≡ [] → ended_variables core r (suc k) ≡ []
-  ended_by r k None there before = rw (before, there) refl
-  ended_by r k (Some v) there before = rw (before, there) (ended_none _ (is_managed core v.of) k (unmanaged_at _ v there))
-
-  ended_nothing : (r k : ℕ) → ended_variables core r k ≡ []
-  ended_nothing r zero = refl
-  ended_nothing r (suc k) = ended_by r k (slice_get core.variables ((variables_of core r).first + k)) refl (ended_nothing r k)
-
   unmanaged_result : (of : TypeId) → is_plain_result core (Some of) ≡ true → is_managed core of ≡ false
   unmanaged_result of e = not-true _ (and_parts (is_solid_type core of) _ e).1
-
-  ending_by_result : (r : ℕ) (x : Routine) → slice_get core.routines r ≡ Some x → (of : Option TypeId) → x.result ≡ of → is_plain_result core of ≡ true → ending_of core r ≡ []
-  ending_by_result r x there None is e = rw (ended_nothing r (variables_of core r).count, there, is) refl
-  ending_by_result r x there (Some of) is e = rw (ended_nothing r (variables_of core r).count, there, is, unmanaged_result of e) refl
 
   routine_at : (r : ℕ) (x : Routine) → slice_get core.routines r ≡ Some x → is_plain_routine is_short_text core x ≡ true
   routine_at r x there = passes_at (is_plain_routine is_short_text core) core.routines r x tests.routines there
@@ -130,24 +94,11 @@ module _ (core : Core) (tests : Tests core) where
   result_at : (x : Routine) → is_plain_routine is_short_text core x ≡ true → is_plain_result core x.result ≡ true
   result_at x e = (and_parts _ _ (and_parts _ _ (and_parts (is_of_unit x.owner) _ e).1).1).0
 
-  ending_by_row : (r : ℕ) (x : Option Routine) → slice_get core.routines r ≡ x → ending_of core r ≡ []
-  ending_by_row r None there = rw (ended_nothing r (variables_of core r).count, there) refl
-  ending_by_row r (Some x) there = ending_by_result r x there x.result refl (result_at x (routine_at r x there))
-
-  unmanaged_by : (v : VariableId) (row : Option Variable) → slice_get core.variables v.0 ≡ row → is_managed core (type_of_variable core v.0) ≡ false
-  unmanaged_by v None there = rw there tests.unmanaged
-  unmanaged_by v (Some row) there = rw there (unmanaged_at v.0 row there)
-
-  none_managed : (vs : List VariableId) → filter (λ v. is_managed core (type_of_variable core v.0)) vs ≡ []
-  none_managed [] = refl
-  none_managed (v ∷ vs) = rw (unmanaged_by v (slice_get core.variables v.0) refl) (none_managed vs)
-
-  no_globals : (us : List UnitRow) → flat_map (λ u. filter (λ v. is_managed core (type_of_variable core v.0)) (rows core.globals u.globals)) us ≡ []
-  no_globals [] = refl
-  no_globals (u ∷ us) = rw (none_managed (rows core.globals u.globals)) (no_globals us)
+  unmanaged_in : (r : ℕ) (x : Routine) (of : TypeId) → slice_get core.routines r ≡ Some x → x.result ≡ Some of → is_managed core of ≡ false
+  unmanaged_in r x of there is = unmanaged_result of (subst (λ o. is_plain_result core o ≡ true) is (result_at x (routine_at r x there)))
 
   pending_none : first_pending core ≡ []
-  pending_none = ap (map (λ v. empty_global v)) (no_globals (reverse core.units))
+  pending_none = ap (map (λ v. empty_global v)) (no_globals core unmanaged_at tests.unmanaged (reverse core.units))
 
   -- ---- units
 
@@ -194,7 +145,7 @@ module _ (core : Core) (tests : Tests core) where
   none_more n = omega arith
 
   parameters_are : (r : ℕ) (x : Routine) → slice_get core.routines r ≡ Some x → is_plain_routine is_short_text core x ≡ true → parameters_of core r ≡ x.parameters.count
-  parameters_are r x there e = let owner = owner_is x.owner (and_parts (is_of_unit x.owner) _ e).0 in rw (there, owner) (none_more x.parameters.count)
+  parameters_are r x there e = let owner = of_unit x.owner (and_parts (is_of_unit x.owner) _ e).0 in rw (there, owner) (none_more x.parameters.count)
 
   few_by : (r : ℕ) (x : Option Routine) → slice_get core.routines r ≡ x → parameters_of core r ≤ 64
   few_by r None there = let none : parameters_of core r ≡ 0 = rw there refl in omega (arith, none)
@@ -223,7 +174,7 @@ plain_by_test core e =
       counted = λ stack r. counted_by core tests stack r (slice_get core.routines r) refl;
       written = λ stack r. written_by core tests stack r (slice_get core.routines r) refl;
       exceptions = none_is core.exceptions tests.exceptions;
-      endings = λ r. ending_by_row core tests r (slice_get core.routines r) refl;
+      endings = λ r. ending_by_row core (unmanaged_at core tests) (unmanaged_in core tests) r (slice_get core.routines r) refl;
       units = λ stack. units_plain core tests stack core.units tests.units;
       few = few_units (length core.units) tests.few;
       globals = pending_none core tests;

@@ -1,7 +1,7 @@
 -- A program that passes the test is without strings and references.
-use Rattle.std.proofs.Common.{◌≡◌, ℕ, Bool, true, false, ◌&&◌, List, [], ◌∷◌, Option, Some, None, refl}
+use Rattle.std.proofs.Common.{◌≡◌, ℕ, Bool, true, false, ◌&&◌, Option, Some, None, refl}
 use Rattle.std.proofs.lemmas.Bool.{and_from, and_parts}
-use Rattle.std.specs.List.{list_all}
+use Rattle.op_base.proofs.Lists.{all_also}
 use Rattle.op_core.specs.Expression.{Expression, expression, Root, constant, variable, object, call, construct, set, eof, eoln, Steps, no_steps, steps, Action, bracket, index, method, operate, apply, Elements, no_elements, elements, Element, one, range, Arguments, no_arguments, arguments, Argument, value, place, array, listed}
 use Rattle.op_core.specs.Statement.{Item, plain, padded, BuiltIn, write, count, include, exclude, Statement, block, if_then, if_else, case_of, while_do, repeat_until, for_to, for_in, try_finally, raise, call as call_statement, assign, exit_with, halt, built_in, Statements, no_statements, statements, Branches, no_branches, branches, stmts_of}
 use Rattle.op_core.specs.declared.constant.Const.{Const}
@@ -28,11 +28,6 @@ turned f g e = let parts = and_parts _ _ e in and_from _ _ (g parts.1) (f parts.
 
 same : {a : Bool} → a ≡ true → a ≡ true
 same e = e
-
--- what each element passes, each passes that asks for less
-all_also : {A : Type 0} (test other : A → Bool) (xs : List A) → ((x : A) → test x ≡ true → other x ≡ true) → list_all test xs ≡ true → list_all other xs ≡ true
-all_also test other [] f e = refl
-all_also test other (x ∷ xs) f e = let parts = and_parts (test x) (list_all test xs) e in and_from (other x) (list_all other xs) (f x parts.0) (all_also test other xs f parts.1)
 
 module _ (core : Core) where
   constant_simple : (v : Const) (nodes words : ℕ) (of : TypeId) → is_plain_constant is_short_text core v of ≡ true → is_simple_root core (constant v nodes words) of ≡ true

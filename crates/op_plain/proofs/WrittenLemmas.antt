@@ -1,6 +1,6 @@
 -- The bodies of a program that passes the test are written: conversions that are not stand apart, and each branch of a case has a label.
 use Rattle.std.proofs.Common.{◌≡◌, ℕ, Bool, true, false, not, ◌&&◌, List, [], ◌∷◌, length}
-use Rattle.std.proofs.lemmas.Bool.{and_parts}
+use Rattle.std.proofs.lemmas.Bool.{and_parts, ltb-true}
 use Rattle.std.specs.List.{list_all}
 use Rattle.op_core.specs.Expression.{Expression, expression, Root, constant, variable, object, call, construct, set, eof, eoln, Steps, no_steps, steps, Action, convert, bracket, field, index, method, prefixed, operate, is, apply, copy, Elements, no_elements, elements, Element, one, range, Arguments, no_arguments, arguments, Argument, value, place, array, listed}
 use Rattle.op_core.specs.Statement.{Item, plain, padded, BuiltIn, write, read, count, set_length, include, exclude, val, str, free, destroy, Statement, empty, block, if_then, if_else, case_of, while_do, repeat_until, for_to, for_in, try_finally, try_on, try_on_else, raise, reraise, call as call_statement, assign, exit, exit_with, break, continue, halt, built_in, Statements, no_statements, statements, Branches, no_branches, branches}
@@ -9,7 +9,7 @@ use Rattle.op_core.specs.declared.operation.Origin.TheVariants.{As_, Cast, Impli
 use Rattle.op_core.specs.declared.program.Core.{Core}
 use Rattle.op_sizes.specs.Written.{MayFollow, is_implied, AreWrittenArguments, AreWrittenBranches, AreWrittenElements, AreWrittenItems, AreWrittenStatements, AreWrittenSteps, IsWritten, IsWrittenAction, IsWrittenArgument, IsWrittenBuiltIn, IsWrittenElement, IsWrittenItem, IsWrittenRoot, IsWrittenStatement, AreWrittenLabels}
 use Rattle.op_plain.proofs.CountedLemmas.{both, three}
-use Rattle.op_plain.proofs.Parts.{below, failed}
+use Rattle.op_plain.proofs.Parts.{failed}
 use Rattle.op_plain.specs.Plain.{are_apart, are_plain_arguments, are_plain_branches, are_plain_elements, are_plain_statements, are_plain_steps, is_plain_amount, is_plain_argument, is_plain_bare, is_plain_built_in, is_plain_element, is_plain_expression, is_plain_item, is_plain_root, is_plain_statement, is_plain_step, are_plain_labels}
 use Rattle.op_typing.specs.Simple.{is_text, text_after}
 use Rattle.op_core.specs.declared.statement.Label.{Label}
@@ -105,7 +105,7 @@ module _ (texts : List ℕ → Bool) (core : Core) where
   built_in_written (destroy a) e = failed e
 
   labels_written : (labels : List Label) → are_plain_labels labels ≡ true → AreWrittenLabels labels
-  labels_written labels e = below 0 (length labels) (and_parts _ _ e).0
+  labels_written labels e = ltb-true 0 (length labels) (and_parts _ _ e).0
 
   mutual
     statement_written : (s : Statement) → is_plain_statement texts core s ≡ true → IsWrittenStatement s

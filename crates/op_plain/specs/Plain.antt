@@ -3,10 +3,10 @@
 -- is asked once for all of it. `texts` is what is asked of a text. (Free Pascal Reference Guide, "Types", "Expressions" and "Statements".)
 use Rattle.std.specs.Prelude.{ℕ, ◌^◌, Bool, true, false, not, ◌&&◌, Option, Some, None, nat_le, nat_lt, List, length}
 use Rattle.std.specs.List.{list_all}
-use Rattle.op_core.specs.Expression.{Expression, expression, Root, constant, variable, object, call, construct, set, eof, eoln, Steps, no_steps, steps, Action, bracket, index, method, operate, apply, Elements, no_elements, elements, Element, one, range, Arguments, no_arguments, arguments, Argument, value, place, array, listed}
-use Rattle.op_core.specs.Statement.{Item, plain, padded, BuiltIn, write, count, include, exclude, Statement, block, if_then, if_else, case_of, while_do, repeat_until, for_to, for_in, try_finally, try_on, try_on_else, raise, reraise, call as call_statement, assign, exit_with, halt, built_in, Statements, no_statements, statements, Branches, no_branches, branches, stmts_of}
+use Rattle.op_core.specs.Expression.{Expression, expression, Root, constant, variable, object, call, construct, set, eof, eoln, Steps, no_steps, steps, Action, convert, bracket, field, index, method, prefixed, operate, is, apply, copy, Elements, no_elements, elements, Element, one, range, Arguments, no_arguments, arguments, Argument, value, place, array, listed}
+use Rattle.op_core.specs.Statement.{Item, plain, padded, BuiltIn, write, read, count, set_length, include, exclude, val, str, free, destroy, Statement, empty, block, if_then, if_else, case_of, while_do, repeat_until, for_to, for_in, try_finally, try_on, try_on_else, raise, reraise, call as call_statement, assign, exit, exit_with, break, continue, halt, built_in, Statements, no_statements, statements, Branches, no_branches, branches, stmts_of}
 use Rattle.op_core.specs.declared.constant.Const.{Const}
-use Rattle.op_core.specs.declared.constant.Const.TheVariants.{Text}
+use Rattle.op_core.specs.declared.constant.Const.TheVariants.{Ordinal, Text, Set, Nil}
 use Rattle.op_core.specs.declared.ids.TypeId.{TypeId}
 use Rattle.op_core.specs.declared.program.Core.{Core}
 use Rattle.op_core.specs.declared.program.Unit.{Unit as UnitRow}
@@ -24,8 +24,10 @@ use Rattle.op_core.specs.declared.statement.Label.{Label}
 -- ---- expressions: the type of each part that comes out is solid, but of a text that is written there
 
 abbrev pub is_plain_constant : (List ℕ → Bool) → Core → Const → TypeId → Bool
+is_plain_constant texts core (Ordinal n) of = is_solid_type core of
 is_plain_constant texts core (Text bytes) of = texts bytes
-is_plain_constant texts core _ of = is_solid_type core of
+is_plain_constant texts core (Set members) of = is_solid_type core of
+is_plain_constant texts core Nil of = is_solid_type core of
 
 -- no conversion that is not written stands behind another one; `implied` says whether one stands in front
 abbrev pub are_apart : (implied : Bool) → Steps → Bool
@@ -53,14 +55,26 @@ abbrev mutual
 
   -- behind a text that is written there, and behind any other value or place
   pub is_plain_step : (List ℕ → Bool) → Core → Bool → Action → TypeId → Bool
+  is_plain_step texts core true (convert conversion origin) next = false
   is_plain_step texts core true bracket next = true
+  is_plain_step texts core true (field id) next = false
   is_plain_step texts core true (index e) next = is_solid_type core next && is_plain_expression texts core e
+  is_plain_step texts core true (method id dispatch given) next = false
+  is_plain_step texts core true (prefixed operator checked) next = false
+  is_plain_step texts core true (operate operator checked e) next = false
+  is_plain_step texts core true (is class) next = false
   is_plain_step texts core true (apply function checked) next = asks_text function && is_solid_type core next
-  is_plain_step texts core true _ next = false
+  is_plain_step texts core true (copy e e') next = false
+  is_plain_step texts core false (convert conversion origin) next = is_solid_type core next
+  is_plain_step texts core false bracket next = is_solid_type core next
+  is_plain_step texts core false (field id) next = is_solid_type core next
   is_plain_step texts core false (index e) next = is_solid_type core next && is_plain_expression texts core e
-  is_plain_step texts core false (operate operator checked e) next = is_solid_type core next && is_plain_expression texts core e
   is_plain_step texts core false (method id dispatch given) next = false
-  is_plain_step texts core false _ next = is_solid_type core next
+  is_plain_step texts core false (prefixed operator checked) next = is_solid_type core next
+  is_plain_step texts core false (operate operator checked e) next = is_solid_type core next && is_plain_expression texts core e
+  is_plain_step texts core false (is class) next = is_solid_type core next
+  is_plain_step texts core false (apply function checked) next = is_solid_type core next
+  is_plain_step texts core false (copy e e') next = is_solid_type core next
 
   pub are_plain_elements : (List ℕ → Bool) → Core → Elements → Bool
   are_plain_elements texts core no_elements = true
@@ -89,18 +103,29 @@ is_plain_item texts core (padded e width) = is_plain_expression texts core e && 
 -- an amount or a status that is not written is a constant that counts for nothing
 abbrev pub is_plain_bare : (List ℕ → Bool) → Core → Root → TypeId → Bool
 is_plain_bare texts core (constant v nodes words) of = is_plain_constant texts core v of
-is_plain_bare texts core root of = is_plain_root texts core root of
+is_plain_bare texts core (variable id) of = is_plain_root texts core (variable id) of
+is_plain_bare texts core (object id) of = is_plain_root texts core (object id) of
+is_plain_bare texts core (call id given) of = is_plain_root texts core (call id given) of
+is_plain_bare texts core (construct c id given) of = is_plain_root texts core (construct c id given) of
+is_plain_bare texts core (set es) of = is_plain_root texts core (set es) of
+is_plain_bare texts core eof of = is_plain_root texts core eof of
+is_plain_bare texts core eoln of = is_plain_root texts core eoln of
 
 abbrev pub is_plain_amount : (List ℕ → Bool) → Core → Expression → Bool
 is_plain_amount texts core (expression root of no_steps) = is_plain_bare texts core root of
-is_plain_amount texts core e = is_plain_expression texts core e
+is_plain_amount texts core (expression root of (steps action next others)) = is_plain_expression texts core (expression root of (steps action next others))
 
 abbrev pub is_plain_built_in : (List ℕ → Bool) → Core → BuiltIn → Bool
 is_plain_built_in texts core (write items ends_line) = list_all (is_plain_item texts core) items
+is_plain_built_in texts core (read targets ends_line) = false
 is_plain_built_in texts core (count direction target amount checked) = is_plain_expression texts core target.place && is_plain_amount texts core amount
+is_plain_built_in texts core (set_length target size) = false
 is_plain_built_in texts core (include s e) = is_plain_expression texts core s && is_plain_expression texts core e
 is_plain_built_in texts core (exclude s e) = is_plain_expression texts core s && is_plain_expression texts core e
-is_plain_built_in texts core _ = false
+is_plain_built_in texts core (val e target code) = false
+is_plain_built_in texts core (str item target) = false
+is_plain_built_in texts core (free e empties) = false
+is_plain_built_in texts core (destroy e) = false
 
 -- each label stands for a node of the text at least, and there is one
 abbrev pub are_nodes : List Label → Bool
@@ -111,6 +136,7 @@ are_plain_labels labels = nat_lt 0 (length labels) && are_nodes labels
 
 abbrev mutual
   pub is_plain_statement : (List ℕ → Bool) → Core → Statement → Bool
+  is_plain_statement texts core empty = true
   is_plain_statement texts core (block ss) = are_plain_statements texts core ss
   is_plain_statement texts core (if_then e s) = is_plain_expression texts core e && is_plain_statement texts core s
   is_plain_statement texts core (if_else e s t) = is_plain_expression texts core e && (is_plain_statement texts core s && is_plain_statement texts core t)
@@ -126,10 +152,12 @@ abbrev mutual
   is_plain_statement texts core reraise = false
   is_plain_statement texts core (call_statement e) = is_plain_expression texts core e
   is_plain_statement texts core (assign target e) = is_plain_expression texts core target && is_plain_expression texts core e
+  is_plain_statement texts core exit = true
   is_plain_statement texts core (exit_with e) = is_plain_expression texts core e
+  is_plain_statement texts core break = true
+  is_plain_statement texts core continue = true
   is_plain_statement texts core (halt e) = is_plain_amount texts core e
   is_plain_statement texts core (built_in action) = is_plain_built_in texts core action
-  is_plain_statement texts core _ = true
 
   pub are_plain_statements : (List ℕ → Bool) → Core → Statements → Bool
   are_plain_statements texts core no_statements = true

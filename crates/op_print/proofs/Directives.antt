@@ -1,9 +1,11 @@
 -- A directive that is printed is a comment, and behind it its switches hold.
 use Rattle.std.proofs.Common.{◌≡◌, ◌≢◌, ℕ, Bool, true, false, ◌&&◌, List, [], ◌∷◌, ◌++◌, refl, sym, ◌∙◌, subst}
 use Rattle.std.specs.Prelude.{nat_eq, not}
+use Rattle.std.proofs.lemmas.Bool.{and_parts}
 use Rattle.std.specs.List.{list_all}
-use Rattle.op_print.proofs.Words.{both_true, true_false}
+use Rattle.op_print.proofs.Words.{true_false}
 use Rattle.op_print.specs.Page.{directive_of, sign_of}
+use Rattle.op_scan.proofs.Lists.{head_eq}
 use Rattle.op_scan.specs.Byte.{is_blank, is_name_byte}
 use Rattle.op_scan.specs.Comment.{opening, IsPlainHere, IsPlain, ends, passes}
 use Rattle.op_scan.specs.Directive.{argument_of, effect_of_comment, effect_of_directive, effect_of_letter, effect_of_named, is_conditional, switched, with_switch}
@@ -35,21 +37,18 @@ inside_quiet s = at s.h s.q s.r
     at false false false = refl
 
 quiet_within : (front : List ℕ) (byte : ℕ) (back : List ℕ) → list_all quiet (front ++ byte ∷ back) ≡ true → quiet byte ≡ true
-quiet_within [] byte back h = (both_true (quiet byte) (list_all quiet back) h).0
-quiet_within (x ∷ front) byte back h = quiet_within front byte back (both_true (quiet x) (list_all quiet (front ++ byte ∷ back)) h).1
-
-first_is : {x y : ℕ} {xs ys : List ℕ} → x ∷ xs ≡ y ∷ ys → x ≡ y
-first_is e = cc
+quiet_within [] byte back h = (and_parts (quiet byte) (list_all quiet back) h).0
+quiet_within (x ∷ front) byte back h = quiet_within front byte back (and_parts (quiet x) (list_all quiet (front ++ byte ∷ back)) h).1
 
 loud : {A : Type 0} (byte other : ℕ) → quiet byte ≡ true → byte ≡ other → quiet other ≡ false → A
 loud byte other h e l = true_false (sym (subst (λ b. quiet b ≡ true) e h) ∙ l)
 
 plain_here : (byte : ℕ) (more : List ℕ) → quiet byte ≡ true → IsPlainHere Braces (byte ∷ more)
-plain_here byte more h = record { no_end = λ rest e. loud byte 125 h (first_is e) refl; no_comment = begins_none }
+plain_here byte more h = record { no_end = λ rest e. loud byte 125 h (head_eq e) refl; no_comment = begins_none }
   where
     begins_none : (inner : Marks) (rest : List ℕ) → byte ∷ more ≢ opening inner ++ rest
-    begins_none Braces rest e = loud byte 123 h (first_is e) refl
-    begins_none Stars rest e = loud byte 40 h (first_is e) refl
+    begins_none Braces rest e = loud byte 123 h (head_eq e) refl
+    begins_none Stars rest e = loud byte 40 h (head_eq e) refl
 
 inside_plain : (s : Switches) (after : List ℕ) → IsPlain Braces (inside_of s) after
 inside_plain s after front byte back e = plain_here byte (back ++ after) (quiet_within front byte back (subst (λ xs. list_all quiet xs ≡ true) e (inside_quiet s)))

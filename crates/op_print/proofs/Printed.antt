@@ -1,5 +1,5 @@
 -- What it means that a part can be printed and read again, and how parts are put together.
-use Rattle.std.proofs.Common.{◌≡◌, List, [], ◌∷◌, codes, map, refl, sym, ap, ◌∙◌, subst, arith}
+use Rattle.std.proofs.Common.{◌≡◌, List, [], ◌∷◌, codes, map, refl, sym, ap, ◌∙◌, subst, arith, ap₂}
 use Rattle.op_base.specs.declared.place.Place.{Place}
 use Rattle.op_print.specs.Page.{Draft, nothing, word, tight, word_at, tight_at, ◌&◌, behind, separated, enclosed}
 use Rattle.op_print.specs.Scanned.{IsIdentifierText, IsSpellable, AreSpellable, Sign, AreSigned, signs_before}
@@ -8,7 +8,6 @@ use Rattle.op_scan.specs.Keyword.{keyword_of}
 use Rattle.op_scan.specs.declared.token.Switches.{Switches}
 use Rattle.op_scan.specs.declared.token.Token.{Token}
 use Rattle.op_scan.specs.declared.token.TokenKind.{TokenKind}
-use Rattle.op_tree.proofs.ExpressionUnique.{same2}
 use Rattle.op_tree.specs.Terminal.{Terminal, ◌at◌, terminals}
 use Rattle.op_tree.specs.declared.position.Position.{Position}
 
@@ -132,7 +131,7 @@ pub record Placed (d : Draft) (ts : List Token) (signs : List Sign) : Type 0 whe
 
 -- a token of this kind with these switches
 token_is : (t : Token) (k : TokenKind) (s : Switches) (z : List Terminal) → t.kind ≡ k → t.switches ≡ s → (t.kind at (record { place = t.place; switches = t.switches })) ∷ z ≡ (k at (record { place = t.place; switches = s })) ∷ z
-token_is t k s z e h = same2 (λ x y. (x at (record { place = t.place; switches = y })) ∷ z) e h
+token_is t k s z e h = ap₂ (λ x y. (x at (record { place = t.place; switches = y })) ∷ z) e h
 
 pub placed : (d : Draft) (ts : List Token) (signs : List Sign) → AreSigned ts (signs_before d signs) → Placed d ts signs
 placed (word k) [] signs h = absurd h

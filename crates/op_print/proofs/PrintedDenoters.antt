@@ -1,5 +1,6 @@
 -- Names, types and first values can be printed and read again.
-use Rattle.std.proofs.Common.{◌≡◌, ℕ, suc, true, false, List, [], ◌∷◌, Some, None, map, refl, sym, ap, subst}
+use Rattle.std.proofs.Common.{◌≡◌, ℕ, suc, true, false, List, [], ◌∷◌, Some, None, map, refl, sym, ap, subst, ap₂}
+use Rattle.op_base.proofs.Tests.{ap₃}
 use Rattle.op_print.proofs.Printed.{here, Able, Printed, printed, again, passed, Listed, last, more, bracketed, enclosed_is}
 use Rattle.op_print.proofs.PrintedExpressions.{printed_chain}
 use Rattle.op_print.specs.DenoterDrafts.{denoter_draft, denoter_drafts, fields_draft, initial_draft, initial_drafts, field_initial_drafts}
@@ -7,7 +8,6 @@ use Rattle.op_print.specs.NameDrafts.{name_draft, bracketed_draft, qualified_dra
 use Rattle.op_print.specs.Page.{nothing, word, tight, word_at, ◌&◌}
 use Rattle.op_print.specs.Unplaced.{bare_position, bare_name, bare_names, bare_qualified, bare_denoter, bare_denoters, bare_field_lists, bare_initial, bare_initials, bare_field_initials}
 use Rattle.op_scan.specs.declared.token.TokenKind.TheVariants as kind
-use Rattle.op_tree.proofs.ExpressionUnique.{same2, same3}
 use Rattle.op_tree.specs.Denoter.{Denoter, named, string, subrange, enumeration, set, array, record_, Denoters, no_denoters, denoters, FieldLists, no_fields, fields}
 use Rattle.op_tree.specs.DenoterGrammar.{IsDenoter, is_named, is_string, is_subrange, is_enumeration, is_set, is_unpacked, is_packed, is_dynamic_array, is_static_array, is_record, AreDenoters, are_one_denoter, are_denoters, AreFieldLists, are_no_fields, are_last_fields, are_fields, IsNoExpression, IsInitial, is_value, is_list, is_record_value, AreInitials, are_one_initial, are_initials, AreFieldInitials, are_one_field_initial, are_field_initials}
 use Rattle.op_tree.specs.Initial.{Initial, value, list, record_ as record_value, Initials, no_initials, initials, FieldInitials, no_field_initials, field_initials}
@@ -26,7 +26,7 @@ pub printed_names : {ns : List Name} {ks r : List Terminal} → AreNames ns ks r
 printed_names (are_one_name n) g = last (λ x. x ∷ []) (λ a ks z. are_one_name) (λ a. ap (λ x. x ∷ [])) (printed_name n g)
 printed_names (are_names n ns) g =
     let u = printed_name n g in
-    more (λ x y. x ∷ y) (λ a b p ks m z. are_names) (λ a b. same2 (λ x y. x ∷ y)) u (printed_names ns u.able.1)
+    more (λ x y. x ∷ y) (λ a b p ks m z. are_names) (λ a b. ap₂ (λ x y. x ∷ y)) u (printed_names ns u.able.1)
 
 pub printed_qualified : {q : QualifiedName} {ks r : List Terminal} → IsQualified q ks r → Able ks → Printed IsQualified bare_qualified q (qualified_draft q) r
 printed_qualified (is_unqualified n) g = passed (λ x. record { unit = None; name = x }) (λ a ks z. is_unqualified) (λ a. ap (λ x. record { unit = None; name = x })) (printed_name n g)
@@ -44,7 +44,7 @@ mutual
   printed_denoter (is_subrange f h) g =
       let u = printed_chain f g in
       let v = printed_chain h u.able.1 in
-      printed (u.words, (tt, v.words)) v.able (λ p z. let a = u.again p.0 _ in let b = v.again p.1.1 z in again (subrange a.part b.part) (is_subrange a.is b.is) (same2 subrange a.same b.same))
+      printed (u.words, (tt, v.words)) v.able (λ p z. let a = u.again p.0 _ in let b = v.again p.1.1 z in again (subrange a.part b.part) (is_subrange a.is b.is) (ap₂ subrange a.same b.same))
   printed_denoter (is_enumeration {p = w} (are_bracketed_names ns)) g =
       let u = printed_names ns g.1 in
       printed (tt, (u.all.words, tt)) u.all.able.1 (λ p z. let a = u.all.again p.1.0 _ in again (enumeration (here p.0 w) a.part) (is_enumeration (are_bracketed_names a.is)) (ap (enumeration (bare_position w)) a.same))
@@ -61,12 +61,12 @@ mutual
       let u = printed_denoters ts g.1.1 in
       let v = printed_denoter t u.all.able.1.1 in
       subst (λ c. Printed (IsDenoter (suc (suc d))) bare_denoter (array q false ts0 t0) (nothing & word_at q.switches kind.Array & c & word kind.Of & denoter_draft t0) r) (sym (enclosed_is kind.OpenBracket kind.Comma kind.CloseBracket (denoter_drafts ts0) u.some))
-      (printed (tt, (tt, ((tt, (u.all.words, tt)), (tt, v.words)))) v.able (λ p z. let a = u.all.again p.1.1.0.1.0 _ in let b = v.again p.1.1.1.1 z in again (array (here p.1.0 q) false a.part b.part) (is_unpacked (is_static_array a.is b.is)) (same2 (array (bare_position q) false) a.same b.same)))
+      (printed (tt, (tt, ((tt, (u.all.words, tt)), (tt, v.words)))) v.able (λ p z. let a = u.all.again p.1.1.0.1.0 _ in let b = v.again p.1.1.1.1 z in again (array (here p.1.0 q) false a.part b.part) (is_unpacked (is_static_array a.is b.is)) (ap₂ (array (bare_position q) false) a.same b.same)))
   printed_denoter {r = r} (is_packed (is_static_array {d = d} {ts = ts0} {t = t0} {p = q} ts t)) g =
       let u = printed_denoters ts g.1.1.1 in
       let v = printed_denoter t u.all.able.1.1 in
       subst (λ c. Printed (IsDenoter (suc (suc d))) bare_denoter (array q true ts0 t0) (word_at q.switches kind.Packed & word kind.Array & c & word kind.Of & denoter_draft t0) r) (sym (enclosed_is kind.OpenBracket kind.Comma kind.CloseBracket (denoter_drafts ts0) u.some))
-      (printed (tt, (tt, ((tt, (u.all.words, tt)), (tt, v.words)))) v.able (λ p z. let a = u.all.again p.1.1.0.1.0 _ in let b = v.again p.1.1.1.1 z in again (array (here p.0 q) true a.part b.part) (is_packed (is_static_array a.is b.is)) (same2 (array (bare_position q) true) a.same b.same)))
+      (printed (tt, (tt, ((tt, (u.all.words, tt)), (tt, v.words)))) v.able (λ p z. let a = u.all.again p.1.1.0.1.0 _ in let b = v.again p.1.1.1.1 z in again (array (here p.0 q) true a.part b.part) (is_packed (is_static_array a.is b.is)) (ap₂ (array (bare_position q) true) a.same b.same)))
   printed_denoter (is_unpacked {p = w} (is_record fs)) g =
       let u = printed_fields fs g.1 in
       printed (tt, (tt, ((tt, (u.words, (tt, tt))), tt))) u.able.1 (λ p z. let a = u.again p.1.1.0.1.0 _ in again (record_ (here p.1.0 w) false a.part) (is_unpacked (is_record a.is)) (ap (record_ (bare_position w) false) a.same))
@@ -78,19 +78,19 @@ mutual
   printed_denoters (are_one_denoter t) g = last (λ x. denoters x no_denoters) (λ a ks z. are_one_denoter) (λ a. ap (λ x. denoters x no_denoters)) (printed_denoter t g)
   printed_denoters (are_denoters t ts) g =
       let u = printed_denoter t g in
-      more denoters (λ a b p ks m z. are_denoters) (λ a b. same2 denoters) u (printed_denoters ts u.able.1)
+      more denoters (λ a b p ks m z. are_denoters) (λ a b. ap₂ denoters) u (printed_denoters ts u.able.1)
 
   printed_fields : {d : ℕ} {fs : FieldLists} {ks r : List Terminal} → AreFieldLists d fs ks r → Able ks → Printed (AreFieldLists d) bare_field_lists fs (fields_draft fs) r
   printed_fields are_no_fields g = printed tt g (λ p z. again no_fields are_no_fields refl)
   printed_fields (are_last_fields ns t) g =
       let u = printed_names ns g in
       let v = printed_denoter t u.all.able.1 in
-      printed ((tt, (u.all.words, (tt, (v.words, tt)))), tt) v.able (λ p z. let a = u.all.again p.0.1.0 _ in let b = v.again p.0.1.1.1.0 _ in again (fields a.part b.part no_fields) (are_fields a.is b.is are_no_fields) (same2 (λ x y. fields x y no_fields) a.same b.same))
+      printed ((tt, (u.all.words, (tt, (v.words, tt)))), tt) v.able (λ p z. let a = u.all.again p.0.1.0 _ in let b = v.again p.0.1.1.1.0 _ in again (fields a.part b.part no_fields) (are_fields a.is b.is are_no_fields) (ap₂ (λ x y. fields x y no_fields) a.same b.same))
   printed_fields (are_fields ns t fs) g =
       let u = printed_names ns g in
       let v = printed_denoter t u.all.able.1 in
       let w = printed_fields fs v.able.1 in
-      printed ((tt, (u.all.words, (tt, (v.words, tt)))), w.words) w.able (λ p z. let a = u.all.again p.0.1.0 _ in let b = v.again p.0.1.1.1.0 _ in let c = w.again p.1 z in again (fields a.part b.part c.part) (are_fields a.is b.is c.is) (same3 fields a.same b.same c.same))
+      printed ((tt, (u.all.words, (tt, (v.words, tt)))), w.words) w.able (λ p z. let a = u.all.again p.0.1.0 _ in let b = v.again p.0.1.1.1.0 _ in let c = w.again p.1 z in again (fields a.part b.part c.part) (are_fields a.is b.is c.is) (ap₃ fields a.same b.same c.same))
 
 -- ---- first values
 
@@ -110,7 +110,7 @@ abbrev bare_field : (Name × Initial) → (Name × Initial)
 bare_field f = (bare_name f.0, bare_initial f.1)
 
 printed_field : {d : ℕ} {n : Name} {i : Initial} {p : Position} {m r : List Terminal} → Printed IsName bare_name n (name_draft n) (kind.Colon at p ∷ m) → Printed (IsInitial d) bare_initial i (initial_draft i) r → Printed (IsField d) bare_field (n, i) (name_draft n & tight kind.Colon & initial_draft i) r
-printed_field u v = printed (u.words, (tt, v.words)) v.able (λ p z. let a = u.again p.0 _ in let b = v.again p.1.1 z in again (a.part, b.part) (_, p.1.0, a.is, b.is) (same2 (λ x y. (x, y)) a.same b.same))
+printed_field u v = printed (u.words, (tt, v.words)) v.able (λ p z. let a = u.again p.0 _ in let b = v.again p.1.1 z in again (a.part, b.part) (_, p.1.0, a.is, b.is) (ap₂ (λ x y. (x, y)) a.same b.same))
 
 mutual
   pub printed_initial : {d : ℕ} {i : Initial} {ks r : List Terminal} → IsInitial d i ks r → Able ks → Printed (IsInitial d) bare_initial i (initial_draft i) r
@@ -126,11 +126,11 @@ mutual
   printed_initials (are_one_initial i) g = last (λ x. initials x no_initials) (λ a ks z. are_one_initial) (λ a. ap (λ x. initials x no_initials)) (printed_initial i g)
   printed_initials (are_initials i is) g =
       let u = printed_initial i g in
-      more initials (λ a b p ks m z. are_initials) (λ a b. same2 initials) u (printed_initials is u.able.1)
+      more initials (λ a b p ks m z. are_initials) (λ a b. ap₂ initials) u (printed_initials is u.able.1)
 
   printed_field_initials : {d : ℕ} {fs : FieldInitials} {ks r : List Terminal} → AreFieldInitials d fs ks r → Able ks → Listed (AreFieldInitials d) bare_field_initials kind.Semicolon fs (field_initial_drafts fs) r
   printed_field_initials (are_one_field_initial n i) g = last (λ x. field_initials x.0 x.1 no_field_initials) (λ a ks z h. are_one_field_initial h.2 h.3) (λ a. ap (λ x. field_initials x.0 x.1 no_field_initials)) (let u = printed_name n g in printed_field u (printed_initial i u.able.1))
   printed_field_initials (are_field_initials n i fs) g =
       let v = printed_name n g in
       let u = printed_field v (printed_initial i v.able.1) in
-      more (λ x y. field_initials x.0 x.1 y) (λ a b p ks m z h. are_field_initials h.2 h.3) (λ a b. same2 (λ x y. field_initials x.0 x.1 y)) u (printed_field_initials fs u.able.1)
+      more (λ x y. field_initials x.0 x.1 y) (λ a b p ks m z h. are_field_initials h.2 h.3) (λ a b. ap₂ (λ x y. field_initials x.0 x.1 y)) u (printed_field_initials fs u.able.1)

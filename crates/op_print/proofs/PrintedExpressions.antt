@@ -1,11 +1,11 @@
 -- Expressions can be printed and read again.
-use Rattle.std.proofs.Common.{◌≡◌, ℕ, List, Some, refl, sym, ap, subst}
+use Rattle.std.proofs.Common.{◌≡◌, ℕ, List, Some, refl, sym, ap, subst, ap₂}
+use Rattle.op_base.proofs.Tests.{ap₃}
 use Rattle.op_print.proofs.Printed.{here, Able, Printed, printed, again, passed, first_of_all, Listed, last, more}
 use Rattle.op_print.specs.ExpressionDrafts.{operator_kind, prefix_kind, expression_draft, operations_draft, designator_draft, root_draft, selectors_draft, selector_draft, expression_drafts, element_drafts, element_draft, argument_drafts, argument_draft}
 use Rattle.op_print.specs.Scanned.{IsSpellable}
 use Rattle.op_print.specs.Unplaced.{bare_position, bare_expression, bare_operations, bare_designator, bare_root, bare_selectors, bare_selector, bare_expressions, bare_elements, bare_element, bare_arguments, bare_argument}
 use Rattle.op_scan.specs.declared.token.TokenKind.TheVariants as kind
-use Rattle.op_tree.proofs.ExpressionUnique.{same2, same3}
 use Rattle.op_tree.specs.Expression.{Expression, chain, prefixed, number, nil, set, literal, designated, inherited, Operations, no_operations, operation, Elements, no_elements, elements, Element, one, range, Designator, designator, Root, named, string, bracketed, Selectors, no_selectors, selectors, Selector, member, index, call, Expressions, no_expressions, expressions, Arguments, no_arguments, arguments, Argument, value, padded, rounded}
 use Rattle.op_tree.specs.ExpressionGrammar.{chain_of, IsChain, is_chain, IsOperand, is_simple, is_term, is_factor, AreOperations, are_no_operations, are_operations, IsFactor, is_prefixed, is_number, is_nil, is_empty_set, is_set, is_literal, is_designated, is_inherited, IsDesignator, is_designator, IsRoot, is_named, is_string, is_bracketed, AreSelectors, are_no_selectors, are_selectors, IsSelector, is_member, is_index, is_empty_call, is_call, AreExpressions, are_one_expression, are_expressions, AreElements, are_one_element, are_elements, IsElement, is_one, is_range, AreArguments, are_one_argument, are_arguments, IsArgument, is_value, is_padded, is_rounded}
 use Rattle.op_tree.specs.Operator.{operator_of, prefix_operator_of}
@@ -36,7 +36,7 @@ bare_chain_of : (e e' : Expression) (os os' : Operations) → bare_expression e 
 bare_chain_of e e' no_operations no_operations p q = p
 bare_chain_of e e' no_operations (operation o x g os) p q = absurd cc
 bare_chain_of e e' (operation o x g os) no_operations p q = absurd cc
-bare_chain_of e e' (operation o x g os) (operation o' x' g' os') p q = same2 chain p q
+bare_chain_of e e' (operation o x g os) (operation o' x' g' os') p q = ap₂ chain p q
 
 -- an operand without operations is the expression
 of_operand : {l : Level} {d : ℕ} {x : Expression} {m r : List Terminal} (xs : Operations) → Printed (IsOperand l d) bare_expression x (expression_draft x) m → Printed (AreOperations l d) bare_operations xs (operations_draft xs) r → Able m → Printed (IsChain l d) bare_expression (chain_of x xs) (expression_draft (chain_of x xs)) r
@@ -59,7 +59,7 @@ mutual
   printed_operations (are_operations {o = o} {p = w} e q x xs) g =
       let u = printed_operand x g.1 in
       let v = printed_operations xs u.able in
-      printed (operator_able o, (u.words, v.words)) v.able (λ p z. let a = u.again p.1.0 _ in let b = v.again p.1.1 z in again (operation o (here p.0 w) a.part b.part) (are_operations (operator_is o) q a.is b.is) (same2 (operation o (bare_position w)) a.same b.same))
+      printed (operator_able o, (u.words, v.words)) v.able (λ p z. let a = u.again p.1.0 _ in let b = v.again p.1.1 z in again (operation o (here p.0 w) a.part b.part) (are_operations (operator_is o) q a.is b.is) (ap₂ (operation o (bare_position w)) a.same b.same))
 
   printed_factor : {d : ℕ} {e : Expression} {ks r : List Terminal} → IsFactor d e ks r → Able ks → Printed (IsFactor d) bare_expression e (expression_draft e) r
   printed_factor (is_prefixed {o = o} {p = w} e f) g =
@@ -83,7 +83,7 @@ mutual
   printed_designator (is_designator root ss) g =
       let u = printed_root root g in
       let v = printed_selectors ss u.able in
-      printed (u.words, v.words) v.able (λ p z. let a = u.again p.0 _ in let b = v.again p.1 z in again (designator a.part b.part) (is_designator a.is b.is) (same2 designator a.same b.same))
+      printed (u.words, v.words) v.able (λ p z. let a = u.again p.0 _ in let b = v.again p.1 z in again (designator a.part b.part) (is_designator a.is b.is) (ap₂ designator a.same b.same))
 
   printed_root : {d : ℕ} {f : Root} {ks r : List Terminal} → IsRoot d f ks r → Able ks → Printed (IsRoot d) bare_root f (root_draft f) r
   printed_root (is_named {text = text} {p = w}) g = printed g.0 g.1 (λ p z. again (named (name text (here p w))) is_named refl)
@@ -96,7 +96,7 @@ mutual
   printed_selectors are_no_selectors g = printed tt g (λ p z. again no_selectors are_no_selectors refl)
   printed_selectors (are_selectors s ss) g =
       let u = printed_selector s g in
-      first_of_all selectors (λ a b ks m z. are_selectors) (λ a b. same2 selectors) u (printed_selectors ss u.able)
+      first_of_all selectors (λ a b ks m z. are_selectors) (λ a b. ap₂ selectors) u (printed_selectors ss u.able)
 
   printed_selector : {d : ℕ} {s : Selector} {ks r : List Terminal} → IsSelector d s ks r → Able ks → Printed (IsSelector d) bare_selector s (selector_draft s) r
   printed_selector (is_member {text = text} {p = w}) g = printed (tt, g.1.0) g.1.1 (λ p z. again (member (name text (here p.1 w))) is_member refl)
@@ -112,35 +112,35 @@ mutual
   printed_expressions (are_one_expression f) g = last (λ x. expressions x no_expressions) (λ a ks z. are_one_expression) (λ a. ap (λ x. expressions x no_expressions)) (printed_chain f g)
   printed_expressions (are_expressions f es) g =
       let u = printed_chain f g in
-      more expressions (λ a b p ks m z. are_expressions) (λ a b. same2 expressions) u (printed_expressions es u.able.1)
+      more expressions (λ a b p ks m z. are_expressions) (λ a b. ap₂ expressions) u (printed_expressions es u.able.1)
 
   pub printed_elements : {d : ℕ} {es : Elements} {ks r : List Terminal} → AreElements d es ks r → Able ks → Listed (AreElements d) bare_elements kind.Comma es (element_drafts es) r
   printed_elements (are_one_element f) g = last (λ x. elements x no_elements) (λ a ks z. are_one_element) (λ a. ap (λ x. elements x no_elements)) (printed_element f g)
   printed_elements (are_elements f es) g =
       let u = printed_element f g in
-      more elements (λ a b p ks m z. are_elements) (λ a b. same2 elements) u (printed_elements es u.able.1)
+      more elements (λ a b p ks m z. are_elements) (λ a b. ap₂ elements) u (printed_elements es u.able.1)
 
   printed_element : {d : ℕ} {e : Element} {ks r : List Terminal} → IsElement d e ks r → Able ks → Printed (IsElement d) bare_element e (element_draft e) r
   printed_element (is_one f) g = passed one (λ a ks z. is_one) (λ a. ap one) (printed_chain f g)
   printed_element (is_range f h) g =
       let u = printed_chain f g in
       let v = printed_chain h u.able.1 in
-      printed (u.words, (tt, v.words)) v.able (λ p z. let a = u.again p.0 _ in let b = v.again p.1.1 z in again (range a.part b.part) (is_range a.is b.is) (same2 range a.same b.same))
+      printed (u.words, (tt, v.words)) v.able (λ p z. let a = u.again p.0 _ in let b = v.again p.1.1 z in again (range a.part b.part) (is_range a.is b.is) (ap₂ range a.same b.same))
 
   printed_arguments : {d : ℕ} {args : Arguments} {ks r : List Terminal} → AreArguments d args ks r → Able ks → Listed (AreArguments d) bare_arguments kind.Comma args (argument_drafts args) r
   printed_arguments (are_one_argument f) g = last (λ x. arguments x no_arguments) (λ a ks z. are_one_argument) (λ a. ap (λ x. arguments x no_arguments)) (printed_argument f g)
   printed_arguments (are_arguments f es) g =
       let u = printed_argument f g in
-      more arguments (λ a b p ks m z. are_arguments) (λ a b. same2 arguments) u (printed_arguments es u.able.1)
+      more arguments (λ a b p ks m z. are_arguments) (λ a b. ap₂ arguments) u (printed_arguments es u.able.1)
 
   printed_argument : {d : ℕ} {a : Argument} {ks r : List Terminal} → IsArgument d a ks r → Able ks → Printed (IsArgument d) bare_argument a (argument_draft a) r
   printed_argument (is_value f) g = passed value (λ a ks z. is_value) (λ a. ap value) (printed_chain f g)
   printed_argument (is_padded f h) g =
       let u = printed_chain f g in
       let v = printed_chain h u.able.1 in
-      printed (u.words, (tt, v.words)) v.able (λ p z. let a = u.again p.0 _ in let b = v.again p.1.1 z in again (padded a.part b.part) (is_padded a.is b.is) (same2 padded a.same b.same))
+      printed (u.words, (tt, v.words)) v.able (λ p z. let a = u.again p.0 _ in let b = v.again p.1.1 z in again (padded a.part b.part) (is_padded a.is b.is) (ap₂ padded a.same b.same))
   printed_argument (is_rounded f h i) g =
       let u = printed_chain f g in
       let v = printed_chain h u.able.1 in
       let w = printed_chain i v.able.1 in
-      printed (u.words, (tt, (v.words, (tt, w.words)))) w.able (λ p z. let a = u.again p.0 _ in let b = v.again p.1.1.0 _ in let c = w.again p.1.1.1.1 z in again (rounded a.part b.part c.part) (is_rounded a.is b.is c.is) (same3 rounded a.same b.same c.same))
+      printed (u.words, (tt, (v.words, (tt, w.words)))) w.able (λ p z. let a = u.again p.0 _ in let b = v.again p.1.1.0 _ in let c = w.again p.1.1.1.1 z in again (rounded a.part b.part c.part) (is_rounded a.is b.is c.is) (ap₃ rounded a.same b.same c.same))

@@ -1,6 +1,7 @@
 -- Files can be printed and read again.
-use Rattle.std.proofs.Common.{◌≡◌, ℕ, List, [], ◌∷◌, inl, inr, map, Option, Some, None, refl, sym, ap, ◌∙◌, subst}
+use Rattle.std.proofs.Common.{◌≡◌, ℕ, List, [], ◌∷◌, inl, inr, map, Option, Some, None, refl, sym, ap, ◌∙◌, subst, ap₂}
 use Rattle.std.specs.Option.{option_map}
+use Rattle.op_base.proofs.Tests.{ap₃}
 use Rattle.op_print.proofs.Printed.{here, Places, tokens, Able, Printed, printed, Again, again, HasOne, placed}
 use Rattle.op_print.proofs.PrintedDeclarations.{printed_begin_end, printed_declarations, printed_interface_declarations}
 use Rattle.op_print.proofs.PrintedDenoters.{printed_brackets, printed_names}
@@ -18,10 +19,10 @@ use Rattle.op_scan.specs.declared.token.Switches.{Switches}
 use Rattle.op_scan.specs.declared.token.Token.{Token}
 use Rattle.op_scan.specs.declared.token.Tokens.{Tokens}
 use Rattle.op_scan.specs.declared.token.TokenKind.TheVariants as kind
-use Rattle.op_tree.proofs.ExpressionUnique.{same2, same3}
+use Rattle.op_tree.proofs.FileUnique.{heading_with, part_with, program_with, tail_with, unit_with}
 use Rattle.op_tree.proofs.StatementUnique.{same4}
 use Rattle.op_tree.specs.Declaration.{Declaration, constants, types, variables, heading, routine, Declarations, no_declarations, declarations}
-use Rattle.op_tree.specs.File.{File, program, unit, UnitPart, Tail}
+use Rattle.op_tree.specs.File.{File, program, unit, Tail}
 use Rattle.op_tree.specs.FileGrammar.{IsProgramHeading, has_no_heading, has_name, has_name_and_list, IsUses, has_no_uses, has_uses, IsTail, has_end_alone, has_block, has_finalization, has_initialization, has_both, BeginAt, IsFile, is_program, is_unit, Spells}
 use Rattle.op_tree.specs.NameGrammar.{is_name}
 use Rattle.op_tree.specs.Statement.{Statements}
@@ -32,9 +33,6 @@ use Rattle.op_tree.specs.declared.position.Name.{Name}
 use Rattle.op_tree.specs.declared.position.Position.{Position}
 
 -- ---- headings and uses
-
-abbrev heading_with : Name → List Name → ProgramHeading
-heading_with n ns = record { name = n; parameters = ns }
 
 printed_program_heading : {d : ℕ} {h : Option ProgramHeading} {ks r : List Terminal} → IsProgramHeading d h ks r → Able ks → Printed (IsProgramHeading d) (option_map bare_program_heading) h (optional program_heading_draft h) r
 printed_program_heading has_no_heading g = printed tt g (λ p z. again None has_no_heading refl)
@@ -55,9 +53,6 @@ printed_uses {r = r} (has_uses {ns = n0} ns) g =
 
 -- ---- tails
 
-abbrev tail_with : Option Statements → Option Statements → Tail
-tail_with i f = record { initialization = i; finalization = f }
-
 printed_tail : {d : ℕ} {t : Tail} {ks r : List Terminal} → IsTail d t ks r → Able ks → Printed (IsTail d) bare_tail t (tail_draft t) r
 printed_tail has_end_alone g = printed (tt, (tt, (tt, tt))) g.1 (λ p z. again (tail_with None None) has_end_alone refl)
 printed_tail (has_block (is_begin_end ss)) g =
@@ -72,7 +67,7 @@ printed_tail (has_initialization ss) g =
 printed_tail (has_both ss ts) g =
     let u = printed_block ss g.1 in
     let v = printed_block ts u.able.1 in
-    printed (tt, ((tt, u.words), ((tt, v.words), tt))) v.able.1 (λ p z. let a = u.again p.1.0.1 _ in let b = v.again p.1.1.0.1 _ in again (tail_with (Some a.part) (Some b.part)) (has_both a.is b.is) (same2 (λ x y. tail_with (Some x) (Some y)) a.same b.same))
+    printed (tt, ((tt, u.words), ((tt, v.words), tt))) v.able.1 (λ p z. let a = u.again p.1.0.1 _ in let b = v.again p.1.1.0.1 _ in again (tail_with (Some a.part) (Some b.part)) (has_both a.is b.is) (ap₂ (λ x y. tail_with (Some x) (Some y)) a.same b.same))
 
 -- ---- files
 
@@ -86,15 +81,6 @@ begins (word_at s k) p ks b = (record { place = p; switches = s }, refl)
 begins (tight_at s k) p ks b = (record { place = p; switches = s }, refl)
 begins (a & c) p ks b = begins a p.0 (tokens c p.1 ks) (begins c p.1 ks b)
 begins other p ks b = b
-
-abbrev program_with : Position → Option ProgramHeading → List Name → Declarations → Statements → File
-program_with p g ns es ss = program (record { position = p; heading = g; uses = ns; declarations = es; statements = ss })
-
-abbrev part_with : List Name → Declarations → UnitPart
-part_with ns es = record { uses = ns; declarations = es }
-
-abbrev unit_with : Position → Name → UnitPart → UnitPart → Tail → File
-unit_with p n i m t = unit (record { position = p; name = n; interface = i; implementation = m; tail = t })
 
 -- a program begins with a reserved word
 declaration_begins : (e : Declaration) → BeginsWithWord (declaration_draft e)
@@ -168,7 +154,7 @@ printed_file (is_unit {p = q} (is_name {text = text} {p = n}) us is ls ds t) g =
           let c = w.again p.0.1.1.1.1.1.1.1.1.0.0 _ in
           let e = x.again p.0.1.1.1.1.1.1.1.1.0.1 _ in
           let i = y.again p.0.1.1.1.1.1.1.1.1.1 _ in
-          again (unit_with (here p.0.0 q) (name text (here p.0.1.0 n)) (part_with a.part b.part) (part_with c.part e.part) i.part) (is_unit is_name a.is b.is c.is e.is i.is) (same3 (unit_with (bare_position q) (name text (bare_position n))) (same2 part_with a.same b.same) (same2 part_with c.same e.same) i.same);
+          again (unit_with (here p.0.0 q) (name text (here p.0.1.0 n)) (part_with a.part b.part) (part_with c.part e.part) i.part) (is_unit is_name a.is b.is c.is e.is i.is) (ap₃ (unit_with (bare_position q) (name text (bare_position n))) (ap₂ part_with a.same b.same) (ap₂ part_with c.same e.same) i.same);
     }
 
 -- ---- what is scanned

@@ -1,7 +1,8 @@
 -- Headings, classes and interfaces can be printed and read again.
-use Rattle.std.proofs.Common.{◌≡◌, ℕ, Bool, true, false, List, [], ◌∷◌, map, Option, Some, None, refl, ap, arith}
+use Rattle.std.proofs.Common.{◌≡◌, ℕ, Bool, true, false, List, [], ◌∷◌, map, Option, Some, None, refl, ap, arith, ap₂}
 use Rattle.std.specs.Char.{to_ascii_lowercase}
 use Rattle.std.specs.Option.{option_map}
+use Rattle.op_base.proofs.Tests.{ap₃}
 use Rattle.op_print.proofs.Printed.{here, Able, fixed, Printed, printed, again, passed, first_of_all, Listed, last, more, bracketed}
 use Rattle.op_print.proofs.PrintedDenoters.{printed_name, printed_names, printed_qualified, printed_brackets, printed_denoter}
 use Rattle.op_print.specs.HeadingDrafts.{routine_word, directive_word, visibility_word, mode_draft, open_array_draft, parameter_type_draft, parameter_draft, type_draft, heading_draft, directive_draft, method_draft, accessor_draft, property_draft, member_draft, section_draft, class_draft, identifier_draft, interface_draft}
@@ -11,10 +12,11 @@ use Rattle.op_print.specs.Scanned.{IsIdentifierText, IsSpellable}
 use Rattle.op_print.specs.Unplaced.{bare_position, bare_name, bare_denoter, bare_parameter_type, bare_parameter, bare_heading, bare_method, bare_property, bare_member, bare_section, bare_class, bare_interface}
 use Rattle.op_scan.specs.Byte.{is_name_start, is_name_byte}
 use Rattle.op_scan.specs.Keyword.{keyword_of}
+use Rattle.op_tree.proofs.ClassUnique.{class_with, interface_with, property_with, section_with}
+use Rattle.op_tree.proofs.HeadingUnique.{parameter_with}
 use Rattle.op_tree.specs.declared.heading.ParameterMode.TheVariants as mode
 use Rattle.op_tree.specs.declared.position.Position.{Position}
 use Rattle.op_scan.specs.declared.token.TokenKind.TheVariants as kind
-use Rattle.op_tree.proofs.ExpressionUnique.{same2, same3}
 use Rattle.op_tree.proofs.StatementUnique.{same4}
 use Rattle.op_tree.specs.Declaration.{Heading, Method, Property, Member, fields, method, property, Section, Class, Interface}
 use Rattle.op_tree.specs.Denoter.{Denoter}
@@ -65,9 +67,6 @@ printed_parameter_type : {t : ParameterType} {ks r : List Terminal} → IsParame
 printed_parameter_type (is_named q) g = passed Named (λ a ks z. is_named) (λ a. ap Named) (printed_qualified q g)
 printed_parameter_type (is_string {p = w}) g = printed tt g.1 (λ p z. again (String (here p w)) is_string refl)
 
-abbrev parameter_with : ParameterMode → List Name → Bool → ParameterType → Parameter
-parameter_with m ns b t = record { mode = m; names = ns; open_array = b; of = t }
-
 printed_parameter : {a : Parameter} {ks r : List Terminal} → IsParameter a ks r → Able ks → Printed IsParameter bare_parameter a (parameter_draft a) r
 printed_parameter (is_parameter m n b t) g =
     let u = printed_mode m g in
@@ -80,7 +79,7 @@ printed_parameters : {as_ : List Parameter} {ks r : List Terminal} → AreParame
 printed_parameters (is_one_parameter a) g = last (λ x. x ∷ []) (λ a ks z. is_one_parameter) (λ a. ap (λ x. x ∷ [])) (printed_parameter a g)
 printed_parameters (are_parameters a as_) g =
     let u = printed_parameter a g in
-    more (λ x y. x ∷ y) (λ a b p ks m z. are_parameters) (λ a b. same2 (λ x y. x ∷ y)) u (printed_parameters as_ u.able.1)
+    more (λ x y. x ∷ y) (λ a b p ks m z. are_parameters) (λ a b. ap₂ (λ x y. x ∷ y)) u (printed_parameters as_ u.able.1)
 
 printed_parameter_part : {d : ℕ} {as_ : List Parameter} {ks r : List Terminal} → IsParameterPart d as_ ks r → Able ks → Printed (IsParameterPart d) (map bare_parameter) as_ (enclosed kind.OpenParenthesis kind.Semicolon kind.CloseParenthesis (map parameter_draft as_)) r
 printed_parameter_part has_no_brackets g = printed tt g (λ p z. again [] has_no_brackets refl)
@@ -118,7 +117,7 @@ printed_heading (is_heading {sort = sort} e n a t) g =
     let v = printed_parameter_part a u.able in
     let w = printed_type t v.able in
     let k = routine_is sort in
-    printed (k.1, (u.words, (v.words, w.words))) w.able (λ p z. let a = u.again p.1.0 _ in let b = v.again p.1.1.0 _ in let c = w.again p.1.1.1 z in again (heading_with sort a.part b.part c.part) (is_heading k.0 a.is b.is c.is) (same3 (heading_with sort) a.same b.same c.same))
+    printed (k.1, (u.words, (v.words, w.words))) w.able (λ p z. let a = u.again p.1.0 _ in let b = v.again p.1.1.0 _ in let c = w.again p.1.1.1 z in again (heading_with sort a.part b.part c.part) (is_heading k.0 a.is b.is c.is) (ap₃ (heading_with sort) a.same b.same c.same))
 
 pub printed_directives : {ds : List Directive} {ks r : List Terminal} → AreDirectives ds ks r → Able ks → Printed AreDirectives (λ x. x) ds (each (map directive_draft ds)) r
 printed_directives are_no_directives g = printed tt g (λ p z. again [] are_no_directives refl)
@@ -131,13 +130,13 @@ pub printed_method : {d : ℕ} {a : Method} {ks r : List Terminal} → IsMethod 
 printed_method (is_method h ws) g =
     let u = printed_heading h g in
     let v = printed_directives ws u.able.1 in
-    printed (tt, (u.words, (tt, v.words))) v.able (λ p z. let a = u.again p.1.0 _ in let b = v.again p.1.1.1 z in again (record { heading = a.part; directives = b.part }) (is_method a.is b.is) (same2 (λ x y. record { heading = x; directives = y }) a.same b.same))
+    printed (tt, (u.words, (tt, v.words))) v.able (λ p z. let a = u.again p.1.0 _ in let b = v.again p.1.1.1 z in again (record { heading = a.part; directives = b.part }) (is_method a.is b.is) (ap₂ (λ x y. record { heading = x; directives = y }) a.same b.same))
 
 printed_methods : {d : ℕ} {as_ : List Method} {ks r : List Terminal} → AreMethods d as_ ks r → Able ks → Printed (AreMethods d) (map bare_method) as_ (each (map method_draft as_)) r
 printed_methods are_no_methods g = printed tt g (λ p z. again [] are_no_methods refl)
 printed_methods (are_methods a as_) g =
     let u = printed_method a g in
-    first_of_all (λ x y. x ∷ y) (λ a b ks m z. are_methods) (λ a b. same2 (λ x y. x ∷ y)) u (printed_methods as_ u.able)
+    first_of_all (λ x y. x ∷ y) (λ a b ks m z. are_methods) (λ a b. ap₂ (λ x y. x ∷ y)) u (printed_methods as_ u.able)
 
 -- ---- members
 
@@ -147,21 +146,18 @@ printed_accessor e i (has_accessor w n) g =
     let u = printed_name n g.1 in
     printed (i, u.words) u.able (λ p z. let a = u.again p.1 z in again (Some a.part) (has_accessor e a.is) (ap Some a.same))
 
-abbrev property_with : Name → Denoter → Option Name → Option Name → Property
-property_with n t a b = record { name = n; denoter = t; read = a; write = b }
-
 printed_property : {d : ℕ} {a : Property} {ks r : List Terminal} → IsProperty d a ks r → Able ks → Printed (IsProperty d) bare_property a (property_draft a) r
 printed_property (is_property (is_name {text = text} {p = n}) t v w) g =
     let u = printed_denoter t g.1.1.1 in
     let x = printed_accessor refl fixed.read v u.able in
     let y = printed_accessor refl fixed.write w x.able in
-    printed (tt, (tt, (g.1.0, (tt, (u.words, (x.words, (y.words, tt))))))) y.able.1 (λ p z. let a = u.again p.1.1.1.1.0 _ in let b = x.again p.1.1.1.1.1.0 _ in let c = y.again p.1.1.1.1.1.1.0 _ in again (property_with (name text (here p.1.1.0 n)) a.part b.part c.part) (is_property is_name a.is b.is c.is) (same3 (property_with (name text (bare_position n))) a.same b.same c.same))
+    printed (tt, (tt, (g.1.0, (tt, (u.words, (x.words, (y.words, tt))))))) y.able.1 (λ p z. let a = u.again p.1.1.1.1.0 _ in let b = x.again p.1.1.1.1.1.0 _ in let c = y.again p.1.1.1.1.1.1.0 _ in again (property_with (name text (here p.1.1.0 n)) a.part b.part c.part) (is_property is_name a.is b.is c.is) (ap₃ (property_with (name text (bare_position n))) a.same b.same c.same))
 
 printed_member : {d : ℕ} {a : Member} {ks r : List Terminal} → IsMember d a ks r → Able ks → Printed (IsMember d) bare_member a (member_draft a) r
 printed_member (are_fields ns t) g =
     let u = printed_names ns g in
     let v = printed_denoter t u.all.able.1 in
-    printed (tt, (u.all.words, (tt, (v.words, tt)))) v.able.1 (λ p z. let a = u.all.again p.1.0 _ in let b = v.again p.1.1.1.0 _ in again (fields (record { names = a.part; denoter = b.part })) (are_fields a.is b.is) (same2 (λ x y. fields (record { names = x; denoter = y })) a.same b.same))
+    printed (tt, (u.all.words, (tt, (v.words, tt)))) v.able.1 (λ p z. let a = u.all.again p.1.0 _ in let b = v.again p.1.1.1.0 _ in again (fields (record { names = a.part; denoter = b.part })) (are_fields a.is b.is) (ap₂ (λ x y. fields (record { names = x; denoter = y })) a.same b.same))
 printed_member (is_class_method a) g = passed method (λ a ks z. is_class_method) (λ a. ap method) (printed_method a g)
 printed_member (is_class_property a) g = passed property (λ a ks z. is_class_property) (λ a. ap property) (printed_property a g)
 
@@ -169,12 +165,9 @@ printed_members : {d : ℕ} {as_ : List Member} {ks r : List Terminal} → AreMe
 printed_members are_no_members g = printed tt g (λ p z. again [] are_no_members refl)
 printed_members (are_members a as_) g =
     let u = printed_member a g in
-    first_of_all (λ x y. x ∷ y) (λ a b ks m z. are_members) (λ a b. same2 (λ x y. x ∷ y)) u (printed_members as_ u.able)
+    first_of_all (λ x y. x ∷ y) (λ a b ks m z. are_members) (λ a b. ap₂ (λ x y. x ∷ y)) u (printed_members as_ u.able)
 
 -- ---- classes
-
-abbrev section_with : Option Visibility → List Member → Section
-section_with v as_ = record { visibility = v; members = as_ }
 
 printed_sections : {d : ℕ} {ss : List Section} {ks r : List Terminal} → AreSections d ss ks r → Able ks → Printed (AreSections d) (map bare_section) ss (each (map section_draft ss)) r
 printed_sections are_no_sections g = printed tt g (λ p z. again [] are_no_sections refl)
@@ -182,7 +175,7 @@ printed_sections (are_sections {v = v0} e as_ ss) g =
     let u = printed_members as_ g.1 in
     let v = printed_sections ss u.able in
     let k = visibility_is v0 in
-    printed (((tt, k.1), u.words), v.words) v.able (λ p z. let a = u.again p.0.1 _ in let b = v.again p.1 z in again (section_with (Some v0) a.part ∷ b.part) (are_sections k.0 a.is b.is) (same2 (λ x y. section_with (Some v0) x ∷ y) a.same b.same))
+    printed (((tt, k.1), u.words), v.words) v.able (λ p z. let a = u.again p.0.1 _ in let b = v.again p.1 z in again (section_with (Some v0) a.part ∷ b.part) (are_sections k.0 a.is b.is) (ap₂ (λ x y. section_with (Some v0) x ∷ y) a.same b.same))
 
 members_first : {d : ℕ} (a : Member) (as_ x : List Member) {ss : List Section} {p : Position} {ks m r : List Terminal} → map bare_member x ≡ map bare_member (a ∷ as_) → AreMembers d x ks m → AreSections d ss m (kind.End at p ∷ r) → IsClassBody d (section_with None x ∷ ss) ks r
 members_first a as_ [] e f g = absurd cc
@@ -195,10 +188,7 @@ printed_body (begins_with_visibility ss) g =
 printed_body (begins_with_members {a = a0} {as_ = b0} as_ ss) g =
     let u = printed_members as_ g in
     let v = printed_sections ss u.able in
-    printed ((tt, (((tt, u.words), v.words), (tt, tt))), tt) v.able.1 (λ p z. let a = u.again p.0.1.0.0.1 _ in let b = v.again p.0.1.0.1 _ in again (section_with None a.part ∷ b.part) (members_first a0 b0 a.part a.same a.is b.is) (same2 (λ x y. section_with None x ∷ y) a.same b.same))
-
-abbrev class_with : List Name → List Section → Class
-class_with ns ss = record { ancestors = ns; sections = ss }
+    printed ((tt, (((tt, u.words), v.words), (tt, tt))), tt) v.able.1 (λ p z. let a = u.again p.0.1.0.0.1 _ in let b = v.again p.0.1.0.1 _ in again (section_with None a.part ∷ b.part) (members_first a0 b0 a.part a.same a.is b.is) (ap₂ (λ x y. section_with None x ∷ y) a.same b.same))
 
 pub printed_class : {d : ℕ} {c : Class} {ks r : List Terminal} → IsClass d c ks r → Able ks → Printed (IsClass d) bare_class c (class_draft c) r
 printed_class (has_body_alone b) g =
@@ -210,7 +200,7 @@ printed_class (has_list_alone ns) g =
 printed_class (has_list_and_body ns b) g =
     let u = printed_brackets ns g.1 in
     let v = printed_body b u.able in
-    printed (tt, (u.words, v.words)) v.able (λ p z. let a = u.again p.1.0 _ in let b = v.again p.1.1 z in again (class_with a.part b.part) (has_list_and_body a.is b.is) (same2 class_with a.same b.same))
+    printed (tt, (u.words, v.words)) v.able (λ p z. let a = u.again p.1.0 _ in let b = v.again p.1.1 z in again (class_with a.part b.part) (has_list_and_body a.is b.is) (ap₂ class_with a.same b.same))
 
 -- ---- interfaces
 
@@ -218,14 +208,11 @@ pub printed_identifier : {d : ℕ} {t : Option (List ℕ)} {ks r : List Terminal
 printed_identifier has_no_identifier g = printed tt g (λ p z. again None has_no_identifier refl)
 printed_identifier (has_identifier {text = text}) g = printed (tt, (g.1.0, tt)) g.1.1.1 (λ p z. again (Some text) has_identifier refl)
 
-abbrev interface_with : Option Name → Option (List ℕ) → List Method → Interface
-interface_with n t as_ = record { ancestor = n; identifier = t; methods = as_ }
-
 pub printed_interface : {d : ℕ} {i : Interface} {ks r : List Terminal} → IsInterface d i ks r → Able ks → Printed (IsInterface d) bare_interface i (interface_draft i) r
 printed_interface (has_methods_alone t as_) g =
     let u = printed_identifier t g.1 in
     let v = printed_methods as_ u.able in
-    printed (tt, (tt, (u.words, ((tt, (v.words, (tt, tt))), tt)))) v.able.1 (λ p z. let a = u.again p.1.1.0 _ in let b = v.again p.1.1.1.0.1.0 _ in again (interface_with None a.part b.part) (has_methods_alone a.is b.is) (same2 (interface_with None) a.same b.same))
+    printed (tt, (tt, (u.words, ((tt, (v.words, (tt, tt))), tt)))) v.able.1 (λ p z. let a = u.again p.1.1.0 _ in let b = v.again p.1.1.1.0.1.0 _ in again (interface_with None a.part b.part) (has_methods_alone a.is b.is) (ap₂ (interface_with None) a.same b.same))
 printed_interface (has_ancestor_alone (are_bracketed_names (are_one_name (is_name {text = text} {p = n}))) t) g =
     let u = printed_identifier t g.1.1.1.1 in
     printed (tt, ((tt, (g.1.1.0, tt)), (u.words, ((tt, (tt, (tt, tt))), tt)))) u.able (λ p z. let a = u.again p.1.1.0 _ in again (interface_with (Some (name text (here p.1.0.1.0 n))) a.part []) (has_ancestor_and_methods (are_bracketed_names (are_one_name is_name)) a.is are_no_methods) (ap (λ x. interface_with (Some (name text (bare_position n))) x []) a.same))
@@ -233,5 +220,5 @@ printed_interface (has_ancestor_alone (are_bracketed_names (are_names n ns)) t) 
 printed_interface (has_ancestor_and_methods (are_bracketed_names (are_one_name (is_name {text = text} {p = n}))) t as_) g =
     let u = printed_identifier t g.1.1.1.1 in
     let v = printed_methods as_ u.able in
-    printed (tt, ((tt, (g.1.1.0, tt)), (u.words, ((tt, (v.words, (tt, tt))), tt)))) v.able.1 (λ p z. let a = u.again p.1.1.0 _ in let b = v.again p.1.1.1.0.1.0 _ in again (interface_with (Some (name text (here p.1.0.1.0 n))) a.part b.part) (has_ancestor_and_methods (are_bracketed_names (are_one_name is_name)) a.is b.is) (same2 (interface_with (Some (name text (bare_position n)))) a.same b.same))
+    printed (tt, ((tt, (g.1.1.0, tt)), (u.words, ((tt, (v.words, (tt, tt))), tt)))) v.able.1 (λ p z. let a = u.again p.1.1.0 _ in let b = v.again p.1.1.1.0.1.0 _ in again (interface_with (Some (name text (here p.1.0.1.0 n))) a.part b.part) (has_ancestor_and_methods (are_bracketed_names (are_one_name is_name)) a.is b.is) (ap₂ (interface_with (Some (name text (bare_position n)))) a.same b.same))
 printed_interface (has_ancestor_and_methods (are_bracketed_names (are_names n ns)) t as_) g = elim ns [ ]

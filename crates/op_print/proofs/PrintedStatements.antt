@@ -1,6 +1,7 @@
 -- Statements can be printed and read again.
-use Rattle.std.proofs.Common.{◌≡◌, ℕ, suc, List, ◌∷◌, Option, Some, None, refl, sym, ap, subst}
+use Rattle.std.proofs.Common.{◌≡◌, ℕ, suc, List, ◌∷◌, Option, Some, None, refl, sym, ap, subst, ap₂}
 use Rattle.std.specs.Option.{option_map}
+use Rattle.op_base.proofs.Tests.{ap₃}
 use Rattle.op_print.proofs.Printed.{here, Able, Printed, printed, again, passed, Listed, last, more, fixed}
 use Rattle.op_print.proofs.PrintedDenoters.{printed_qualified}
 use Rattle.op_print.proofs.PrintedExpressions.{printed_chain, printed_designator, printed_elements}
@@ -9,7 +10,6 @@ use Rattle.op_print.specs.Scanned.{IsSpellable}
 use Rattle.op_print.specs.StatementDrafts.{direction_kind, on_draft, block_draft, begun, statement_draft, statement_drafts, branches_draft, handlers_draft}
 use Rattle.op_print.specs.Unplaced.{bare_position, bare_name, bare_qualified, bare_statement, bare_statements, bare_branches, bare_handlers}
 use Rattle.op_scan.specs.declared.token.TokenKind.TheVariants as kind
-use Rattle.op_tree.proofs.ExpressionUnique.{same2, same3}
 use Rattle.op_tree.specs.Statement.{Statement, empty, block, if_then, if_else, case_of, case_else, while_do, repeat_until, for_to, for_in, try_finally, try_except, try_on, try_on_else, raise, reraise, inherited, inherited_call, call, assign, Statements, no_statements, statements, Branches, no_branches, branches, Handlers, no_handlers, handlers}
 use Rattle.op_tree.specs.StatementGrammar.{IsClosed, direction_of, IsOn, is_on_class, is_on_variable, IsStatement, is_empty, is_block, is_if_then, is_if_else, is_case, is_case_else, is_while, is_repeat, is_for_to, is_for_in, is_try_finally, is_try_except, is_try_on, is_try_on_else, is_raise, is_reraise, is_inherited, is_inherited_call, is_call, is_assignment, is_begin_end, AreStatements, are_one_statement, are_statements, AreBranches, are_no_branches, are_branches, is_branch_before_end, is_branch_before_else, AreHandlers, are_no_handlers, are_handlers, is_handler_before_end, is_handler_before_else}
 use Rattle.op_tree.specs.Terminal.{Terminal, ◌at◌, name}
@@ -95,55 +95,55 @@ mutual
   printed_statement (is_if_then c s) g =
       let u = printed_chain c g.1 in
       let v = printed_statement s u.able.1 in
-      printed (tt, (u.words, (tt, v.words))) v.able (λ p z. let a = u.again p.1.0 _ in let b = v.again p.1.1.1 z in again (if_then a.part b.part) (is_if_then a.is b.is) (same2 if_then a.same b.same))
+      printed (tt, (u.words, (tt, v.words))) v.able (λ p z. let a = u.again p.1.0 _ in let b = v.again p.1.1.1 z in again (if_then a.part b.part) (is_if_then a.is b.is) (ap₂ if_then a.same b.same))
   printed_statement (is_if_else {s = s0} c s e t) g =
       let u = printed_chain c g.1 in
       let v = printed_statement s u.able.1 in
       let w = printed_statement t v.able.1 in
-      printed (tt, (u.words, (tt, (v.words, (tt, w.words))))) w.able (λ p z. let a = u.again p.1.0 _ in let b = v.again p.1.1.1.0 _ in let c = w.again p.1.1.1.1.1 z in again (if_else a.part b.part c.part) (is_if_else a.is b.is (closed_again s0 b.part b.same e) c.is) (same3 if_else a.same b.same c.same))
+      printed (tt, (u.words, (tt, (v.words, (tt, w.words))))) w.able (λ p z. let a = u.again p.1.0 _ in let b = v.again p.1.1.1.0 _ in let c = w.again p.1.1.1.1.1 z in again (if_else a.part b.part c.part) (is_if_else a.is b.is (closed_again s0 b.part b.same e) c.is) (ap₃ if_else a.same b.same c.same))
   printed_statement (is_case e bs) g =
       let u = printed_chain e g.1 in
       let v = printed_branches bs u.able.1 in
-      printed (tt, (u.words, (tt, ((tt, (v.words, (tt, tt))), tt)))) v.able.1 (λ p z. let a = u.again p.1.0 _ in let b = v.again p.1.1.1.0.1.0 _ in again (case_of a.part b.part) (is_case a.is b.is) (same2 case_of a.same b.same))
+      printed (tt, (u.words, (tt, ((tt, (v.words, (tt, tt))), tt)))) v.able.1 (λ p z. let a = u.again p.1.0 _ in let b = v.again p.1.1.1.0.1.0 _ in again (case_of a.part b.part) (is_case a.is b.is) (ap₂ case_of a.same b.same))
   printed_statement (is_case_else e bs ss) g =
       let u = printed_chain e g.1 in
       let v = printed_branches bs u.able.1 in
       let w = in_block (printed_statements ss v.able.1) in
-      printed (tt, (u.words, (tt, ((tt, (v.words, (tt, tt))), (tt, (w.words, tt)))))) w.able.1 (λ p z. let a = u.again p.1.0 _ in let b = v.again p.1.1.1.0.1.0 _ in let c = w.again p.1.1.1.1.1.0 _ in again (case_else a.part b.part c.part) (is_case_else a.is b.is c.is) (same3 case_else a.same b.same c.same))
+      printed (tt, (u.words, (tt, ((tt, (v.words, (tt, tt))), (tt, (w.words, tt)))))) w.able.1 (λ p z. let a = u.again p.1.0 _ in let b = v.again p.1.1.1.0.1.0 _ in let c = w.again p.1.1.1.1.1.0 _ in again (case_else a.part b.part c.part) (is_case_else a.is b.is c.is) (ap₃ case_else a.same b.same c.same))
   printed_statement (is_while c s) g =
       let u = printed_chain c g.1 in
       let v = printed_statement s u.able.1 in
-      printed (tt, (u.words, (tt, v.words))) v.able (λ p z. let a = u.again p.1.0 _ in let b = v.again p.1.1.1 z in again (while_do a.part b.part) (is_while a.is b.is) (same2 while_do a.same b.same))
+      printed (tt, (u.words, (tt, v.words))) v.able (λ p z. let a = u.again p.1.0 _ in let b = v.again p.1.1.1 z in again (while_do a.part b.part) (is_while a.is b.is) (ap₂ while_do a.same b.same))
   printed_statement (is_repeat ss c) g =
       let u = in_block (printed_statements ss g.1) in
       let v = printed_chain c u.able.1 in
-      printed (tt, (u.words, (tt, v.words))) v.able (λ p z. let a = u.again p.1.0 _ in let b = v.again p.1.1.1 z in again (repeat_until a.part b.part) (is_repeat a.is b.is) (same2 repeat_until a.same b.same))
+      printed (tt, (u.words, (tt, v.words))) v.able (λ p z. let a = u.again p.1.0 _ in let b = v.again p.1.1.1 z in again (repeat_until a.part b.part) (is_repeat a.is b.is) (ap₂ repeat_until a.same b.same))
   printed_statement (is_for_to {way = way} (is_name {text = text} {p = n}) x w y s) g =
       let u = printed_chain x g.1.1.1 in
       let v = printed_chain y u.able.1 in
       let t = printed_statement s v.able.1 in
-      printed (tt, (g.1.0, (tt, (u.words, (direction_able way, (v.words, (tt, t.words))))))) t.able (λ p z. let a = u.again p.1.1.1.0 _ in let b = v.again p.1.1.1.1.1.0 _ in let c = t.again p.1.1.1.1.1.1.1 z in again (for_to (name text (here p.1.0 n)) a.part way b.part c.part) (is_for_to is_name a.is (direction_is way) b.is c.is) (same3 (λ x y. for_to (name text (bare_position n)) x way y) a.same b.same c.same))
+      printed (tt, (g.1.0, (tt, (u.words, (direction_able way, (v.words, (tt, t.words))))))) t.able (λ p z. let a = u.again p.1.1.1.0 _ in let b = v.again p.1.1.1.1.1.0 _ in let c = t.again p.1.1.1.1.1.1.1 z in again (for_to (name text (here p.1.0 n)) a.part way b.part c.part) (is_for_to is_name a.is (direction_is way) b.is c.is) (ap₃ (λ x y. for_to (name text (bare_position n)) x way y) a.same b.same c.same))
   printed_statement (is_for_in (is_name {text = text} {p = n}) e s) g =
       let u = printed_chain e g.1.1.1 in
       let v = printed_statement s u.able.1 in
-      printed (tt, (g.1.0, (tt, (u.words, (tt, v.words))))) v.able (λ p z. let a = u.again p.1.1.1.0 _ in let b = v.again p.1.1.1.1.1 z in again (for_in (name text (here p.1.0 n)) a.part b.part) (is_for_in is_name a.is b.is) (same2 (for_in (name text (bare_position n))) a.same b.same))
+      printed (tt, (g.1.0, (tt, (u.words, (tt, v.words))))) v.able (λ p z. let a = u.again p.1.1.1.0 _ in let b = v.again p.1.1.1.1.1 z in again (for_in (name text (here p.1.0 n)) a.part b.part) (is_for_in is_name a.is b.is) (ap₂ (for_in (name text (bare_position n))) a.same b.same))
   printed_statement (is_try_finally ss ts) g =
       let u = in_block (printed_statements ss g.1) in
       let v = in_block (printed_statements ts u.able.1) in
-      printed (tt, (u.words, (tt, (v.words, tt)))) v.able.1 (λ p z. let a = u.again p.1.0 _ in let b = v.again p.1.1.1.0 _ in again (try_finally a.part b.part) (is_try_finally a.is b.is) (same2 try_finally a.same b.same))
+      printed (tt, (u.words, (tt, (v.words, tt)))) v.able.1 (λ p z. let a = u.again p.1.0 _ in let b = v.again p.1.1.1.0 _ in again (try_finally a.part b.part) (is_try_finally a.is b.is) (ap₂ try_finally a.same b.same))
   printed_statement (is_try_except ss ts) g =
       let u = in_block (printed_statements ss g.1) in
       let v = in_block (printed_statements ts u.able.1) in
-      printed (tt, (u.words, (tt, (v.words, tt)))) v.able.1 (λ p z. let a = u.again p.1.0 _ in let b = v.again p.1.1.1.0 _ in again (try_except a.part b.part) (is_try_except a.is b.is) (same2 try_except a.same b.same))
+      printed (tt, (u.words, (tt, (v.words, tt)))) v.able.1 (λ p z. let a = u.again p.1.0 _ in let b = v.again p.1.1.1.0 _ in again (try_except a.part b.part) (is_try_except a.is b.is) (ap₂ try_except a.same b.same))
   printed_statement (is_try_on ss hs) g =
       let u = in_block (printed_statements ss g.1) in
       let v = printed_handlers hs u.able.1 in
-      printed (tt, (u.words, (tt, ((tt, (v.words, (tt, tt))), tt)))) v.able.1 (λ p z. let a = u.again p.1.0 _ in let b = v.again p.1.1.1.0.1.0 _ in again (try_on a.part b.part) (try_on_again b.part a.is b.is b.same) (same2 try_on a.same b.same))
+      printed (tt, (u.words, (tt, ((tt, (v.words, (tt, tt))), tt)))) v.able.1 (λ p z. let a = u.again p.1.0 _ in let b = v.again p.1.1.1.0.1.0 _ in again (try_on a.part b.part) (try_on_again b.part a.is b.is b.same) (ap₂ try_on a.same b.same))
   printed_statement (is_try_on_else ss hs ts) g =
       let u = in_block (printed_statements ss g.1) in
       let v = printed_handlers hs u.able.1 in
       let w = in_block (printed_statements ts v.able.1) in
-      printed (tt, (u.words, (tt, ((tt, (v.words, (tt, tt))), (tt, (w.words, tt)))))) w.able.1 (λ p z. let a = u.again p.1.0 _ in let b = v.again p.1.1.1.0.1.0 _ in let c = w.again p.1.1.1.1.1.0 _ in again (try_on_else a.part b.part c.part) (try_on_else_again b.part a.is b.is c.is b.same) (same3 try_on_else a.same b.same c.same))
+      printed (tt, (u.words, (tt, ((tt, (v.words, (tt, tt))), (tt, (w.words, tt)))))) w.able.1 (λ p z. let a = u.again p.1.0 _ in let b = v.again p.1.1.1.0.1.0 _ in let c = w.again p.1.1.1.1.1.0 _ in again (try_on_else a.part b.part c.part) (try_on_else_again b.part a.is b.is c.is b.same) (ap₃ try_on_else a.same b.same c.same))
   printed_statement (is_raise {p = w} e) g =
       let u = printed_chain e g.1 in
       printed (tt, u.words) u.able (λ p z. let a = u.again p.1 z in again (raise (here p.0 w) a.part) (is_raise a.is) (ap (raise (bare_position w)) a.same))
@@ -156,13 +156,13 @@ mutual
   printed_statement (is_assignment {p = w} f e) g =
       let u = printed_designator f g in
       let v = printed_chain e u.able.1 in
-      printed (u.words, (tt, v.words)) v.able (λ p z. let a = u.again p.0 _ in let b = v.again p.1.1 z in again (assign a.part (here p.1.0 w) b.part) (is_assignment a.is b.is) (same2 (λ x y. assign x (bare_position w) y) a.same b.same))
+      printed (u.words, (tt, v.words)) v.able (λ p z. let a = u.again p.0 _ in let b = v.again p.1.1 z in again (assign a.part (here p.1.0 w) b.part) (is_assignment a.is b.is) (ap₂ (λ x y. assign x (bare_position w) y) a.same b.same))
 
   printed_statements : {d : ℕ} {ss : Statements} {ks r : List Terminal} → AreStatements d ss ks r → Able ks → Listed (AreStatements d) bare_statements kind.Semicolon ss (statement_drafts ss) r
   printed_statements (are_one_statement {s = s0} s) g = last (λ x. statements x no_statements) (λ a ks z. are_one_statement) (λ a. ap (λ x. statements x no_statements)) (on_line s0 (printed_statement s g))
   printed_statements (are_statements {s = s0} s ss) g =
       let u = on_line s0 (printed_statement s g) in
-      more statements (λ a b p ks m z. are_statements) (λ a b. same2 statements) u (printed_statements ss u.able.1)
+      more statements (λ a b p ks m z. are_statements) (λ a b. ap₂ statements) u (printed_statements ss u.able.1)
 
   printed_branches : {d : ℕ} {bs : Branches} {ks r : List Terminal} → AreBranches d bs ks r → Able ks → Printed (AreBranches d) bare_branches bs (branches_draft bs) r
   printed_branches are_no_branches g = printed tt g (λ p z. again no_branches are_no_branches refl)
@@ -170,15 +170,15 @@ mutual
       let u = printed_elements ls g in
       let v = printed_statement s u.all.able.1 in
       let w = printed_branches bs v.able.1 in
-      printed (tt, (u.all.words, (tt, (v.words, (tt, w.words))))) w.able (λ p z. let a = u.all.again p.1.0 _ in let b = v.again p.1.1.1.0 _ in let c = w.again p.1.1.1.1.1 z in again (branches a.part b.part c.part) (are_branches a.is b.is c.is) (same3 branches a.same b.same c.same))
+      printed (tt, (u.all.words, (tt, (v.words, (tt, w.words))))) w.able (λ p z. let a = u.all.again p.1.0 _ in let b = v.again p.1.1.1.0 _ in let c = w.again p.1.1.1.1.1 z in again (branches a.part b.part c.part) (are_branches a.is b.is c.is) (ap₃ branches a.same b.same c.same))
   printed_branches (is_branch_before_end ls s) g =
       let u = printed_elements ls g in
       let v = printed_statement s u.all.able.1 in
-      printed (tt, (u.all.words, (tt, (v.words, (tt, tt))))) v.able (λ p z. let a = u.all.again p.1.0 _ in let b = v.again p.1.1.1.0 _ in again (branches a.part b.part no_branches) (are_branches a.is b.is are_no_branches) (same2 (λ x y. branches x y no_branches) a.same b.same))
+      printed (tt, (u.all.words, (tt, (v.words, (tt, tt))))) v.able (λ p z. let a = u.all.again p.1.0 _ in let b = v.again p.1.1.1.0 _ in again (branches a.part b.part no_branches) (are_branches a.is b.is are_no_branches) (ap₂ (λ x y. branches x y no_branches) a.same b.same))
   printed_branches (is_branch_before_else ls s h) g =
       let u = printed_elements ls g in
       let v = printed_statement s u.all.able.1 in
-      printed (tt, (u.all.words, (tt, (v.words, (tt, tt))))) v.able (λ p z. let a = u.all.again p.1.0 _ in let b = v.again p.1.1.1.0 _ in again (branches a.part b.part no_branches) (are_branches a.is b.is are_no_branches) (same2 (λ x y. branches x y no_branches) a.same b.same))
+      printed (tt, (u.all.words, (tt, (v.words, (tt, tt))))) v.able (λ p z. let a = u.all.again p.1.0 _ in let b = v.again p.1.1.1.0 _ in again (branches a.part b.part no_branches) (are_branches a.is b.is are_no_branches) (ap₂ (λ x y. branches x y no_branches) a.same b.same))
 
   printed_handlers : {d : ℕ} {hs : Handlers} {ks r : List Terminal} → AreHandlers d hs ks r → Able ks → Printed (AreHandlers d) bare_handlers hs (handlers_draft hs) r
   printed_handlers are_no_handlers g = printed tt g (λ p z. again no_handlers are_no_handlers refl)
@@ -186,15 +186,15 @@ mutual
       let u = printed_on o g in
       let v = printed_statement s u.able in
       let w = printed_handlers hs v.able.1 in
-      printed (u.words, (v.words, (tt, w.words))) w.able (λ p z. let a = u.again p.0 _ in let b = v.again p.1.0 _ in let c = w.again p.1.1.1 z in again (handlers a.part.0 a.part.1 b.part c.part) (are_handlers a.is b.is c.is) (same3 (λ x. handlers x.0 x.1) a.same b.same c.same))
+      printed (u.words, (v.words, (tt, w.words))) w.able (λ p z. let a = u.again p.0 _ in let b = v.again p.1.0 _ in let c = w.again p.1.1.1 z in again (handlers a.part.0 a.part.1 b.part c.part) (are_handlers a.is b.is c.is) (ap₃ (λ x. handlers x.0 x.1) a.same b.same c.same))
   printed_handlers (is_handler_before_end o s) g =
       let u = printed_on o g in
       let v = printed_statement s u.able in
-      printed (u.words, (v.words, (tt, tt))) v.able (λ p z. let a = u.again p.0 _ in let b = v.again p.1.0 _ in again (handlers a.part.0 a.part.1 b.part no_handlers) (are_handlers a.is b.is are_no_handlers) (same2 (λ x y. handlers x.0 x.1 y no_handlers) a.same b.same))
+      printed (u.words, (v.words, (tt, tt))) v.able (λ p z. let a = u.again p.0 _ in let b = v.again p.1.0 _ in again (handlers a.part.0 a.part.1 b.part no_handlers) (are_handlers a.is b.is are_no_handlers) (ap₂ (λ x y. handlers x.0 x.1 y no_handlers) a.same b.same))
   printed_handlers (is_handler_before_else o s h) g =
       let u = printed_on o g in
       let v = printed_statement s u.able in
-      printed (u.words, (v.words, (tt, tt))) v.able (λ p z. let a = u.again p.0 _ in let b = v.again p.1.0 _ in again (handlers a.part.0 a.part.1 b.part no_handlers) (are_handlers a.is b.is are_no_handlers) (same2 (λ x y. handlers x.0 x.1 y no_handlers) a.same b.same))
+      printed (u.words, (v.words, (tt, tt))) v.able (λ p z. let a = u.again p.0 _ in let b = v.again p.1.0 _ in again (handlers a.part.0 a.part.1 b.part no_handlers) (are_handlers a.is b.is are_no_handlers) (ap₂ (λ x y. handlers x.0 x.1 y no_handlers) a.same b.same))
 
 pub printed_block : {d : ℕ} {ss : Statements} {ks r : List Terminal} → AreStatements d ss ks r → Able ks → Printed (AreStatements d) bare_statements ss (block_draft (statement_drafts ss)) r
 printed_block ss g = in_block (printed_statements ss g)

@@ -2,12 +2,12 @@
 use Rattle.std.proofs.Common.{◌≡◌, ◌≢◌, ℕ, ◌-◌, ◌≤◌, Bool, true, false, cond, ◌||◌, List, [], ◌∷◌, ◌++◌, length, get_or, refl, sym, ap, ◌∙◌, subst, append_assoc, length-append, arith}
 use Rattle.std.specs.Prelude.{nat_eq}
 use Rattle.std.specs.List.{flat_map, list_any}
-use Rattle.std.proofs.lemmas.Bool.{eqb-true}
+use Rattle.std.proofs.lemmas.Bool.{eqb-true, le-ltb, or_parts}
 use Rattle.std.proofs.lemmas.Grind.{flat_map-append}
-use Rattle.std.proofs.lemmas.List.Folds.{list_any-append}
-use Rattle.op_print.proofs.Words.{in_bounds, either_false, take_while-all, IsApart, apart_tests, IsSpelled}
+use Rattle.op_print.proofs.Words.{take_while-all, IsApart, apart_tests, IsSpelled}
 use Rattle.op_print.specs.Page.{last_byte}
 use Rattle.op_print.specs.Spelling.{quoted, quoted_byte}
+use Rattle.op_scan.proofs.Quoting.{line_more}
 use Rattle.op_scan.proofs.Strings.{append_nil, no_part_empty, no_part_here}
 use Rattle.op_scan.specs.Byte.{begins_with, is_line_end, is_digit_in}
 use Rattle.op_scan.specs.Directive.{rule}
@@ -63,9 +63,6 @@ no_line_end : (x : ℕ) → nat_eq x 13 ≡ false → nat_eq x 10 ≡ false → 
 unfolding is_line_end
 no_line_end x u v = ap (λ t. t || nat_eq x 10) u ∙ v
 
-none_more : (done : List ℕ) (x : ℕ) → list_any is_line_end done ≡ false → is_line_end x ≡ false → list_any is_line_end (done ++ x ∷ []) ≡ false
-none_more done x l e = list_any-append is_line_end done (x ∷ []) ∙ ap (λ t. t || list_any is_line_end (x ∷ [])) l ∙ ap (λ t. t || false) e
-
 quote_is_no_line_end : (x : ℕ) → x ≡ 39 → is_line_end x ≡ false
 unfolding is_line_end
 quote_is_no_line_end x e = ap is_line_end e
@@ -77,7 +74,7 @@ next_byte done x text rest l h = at (nat_eq x 39) (nat_eq x 13) (nat_eq x 10) re
     at : (t u v : Bool) → nat_eq x 39 ≡ t → nat_eq x 13 ≡ u → nat_eq x 10 ≡ v → Parts (39 ∷ (doubled done ++ ((cond t (39 ∷ 39 ∷ []) (cond u (39 ∷ 35 ∷ 49 ∷ 51 ∷ 39 ∷ []) (cond v (39 ∷ 35 ∷ 49 ∷ 48 ∷ 39 ∷ []) (x ∷ []))) ++ inside text) ++ rest))) rest (done ++ x ∷ text)
     at true u v p q r =
         let e : double_of x ≡ 39 ∷ 39 ∷ [] = ap (λ t. cond t (39 ∷ 39 ∷ []) (x ∷ [])) p in
-        one_more done x text rest (39 ∷ 39 ∷ []) e (h (done ++ x ∷ []) (none_more done x l (quote_is_no_line_end x (eqb-true x 39 p))))
+        one_more done x text rest (39 ∷ 39 ∷ []) e (h (done ++ x ∷ []) (line_more done x l (quote_is_no_line_end x (eqb-true x 39 p))))
     at false true v p q r =
         let e = append_assoc (39 ∷ doubled done) (39 ∷ []) (35 ∷ 49 ∷ 51 ∷ 39 ∷ (inside text ++ rest)) in
         subst (λ z. Parts (39 ∷ (doubled done ++ (39 ∷ 35 ∷ 49 ∷ 51 ∷ 39 ∷ (inside text ++ rest)))) rest (done ++ z ∷ text)) (sym (eqb-true x 13 q))
@@ -88,7 +85,7 @@ next_byte done x text rest l h = at (nat_eq x 39) (nat_eq x 13) (nat_eq x 10) re
         (subst (λ z. Parts z rest (done ++ 10 ∷ text)) e (by_number done (49 ∷ 48 ∷ []) text rest l (line_feed (inside text ++ rest)) (h [] refl)))
     at false false false p q r =
         let e : double_of x ≡ x ∷ [] = ap (λ t. cond t (39 ∷ 39 ∷ []) (x ∷ [])) p in
-        one_more done x text rest (x ∷ []) e (h (done ++ x ∷ []) (none_more done x l (no_line_end x q r)))
+        one_more done x text rest (x ∷ []) e (h (done ++ x ∷ []) (line_more done x l (no_line_end x q r)))
 
 open_part : (text rest : List ℕ) → NoPart rest → begins_with rest 39 ≡ false → (done : List ℕ) → list_any is_line_end done ≡ false → Opens done text rest
 open_part [] rest n q done l =
@@ -112,7 +109,7 @@ last_append xs y =
 no_part : (rest : List ℕ) → IsApart 39 rest → NoPart rest × (begins_with rest 39 ≡ false)
 no_part [] h = (no_part_empty, refl)
 no_part (y ∷ rest) h =
-    let e = either_false (nat_eq y 39) (nat_eq y 35) (apart_tests 39 y h).strings in
+    let e = or_parts (nat_eq y 39) (nat_eq y 35) (apart_tests 39 y h).strings in
     (no_part_here y rest e.0 e.1, e.0)
 
 not_empty : (xs : List ℕ) → 39 ∷ xs ≢ []
@@ -125,5 +122,5 @@ spelled_string text rest h a =
     record {
       item = a_string text;
       stands = string (not_empty (inside text)) (open_part text rest n.0 n.1 [] refl);
-      gives = λ s. ap (λ t. cond t (Breaks (rule 66)) (Gives (kind.CharacterString text))) (in_bounds 65535 (length text) h);
+      gives = λ s. ap (λ t. cond t (Breaks (rule 66)) (Gives (kind.CharacterString text))) (le-ltb 65535 (length text) h);
     }

@@ -1,13 +1,16 @@
 -- Scanning what is printed gives the tokens of its words.
 use Rattle.std.proofs.Common.{◌≡◌, ◌≢◌, ℕ, suc, zero, ◌+◌, ◌-◌, Bool, true, false, cond, ◌&&◌, ◌||◌, List, [], ◌∷◌, ◌++◌, length, ◌⊎◌, inl, inr, take, drop, get_or, refl, sym, ap, ◌∙◌, subst, append_assoc, length-append, arith}
 use Rattle.std.specs.Prelude.{decimal, nat_eq, not}
+use Rattle.std.proofs.Math.Bool.{and-false}
+use Rattle.std.proofs.lemmas.Bool.{and_parts}
 use Rattle.std.specs.List.{list_all}
 use Rattle.std.proofs.lemmas.Bool.Decides.{nat_tests}
 use Rattle.std.proofs.lemmas.List.{get_or-append-add}
+use Rattle.op_base.proofs.Tests.{ap₃}
 use Rattle.op_base.specs.declared.place.Place.{Place}
 use Rattle.op_print.proofs.Directives.{inside_of, directive_stands, directive_effect}
 use Rattle.op_print.proofs.Symbols.{spelled}
-use Rattle.op_print.proofs.Words.{both_true, all_append, decimal_digits, last_all, last_cons, IsApart, IsSpelled}
+use Rattle.op_print.proofs.Words.{all_append, decimal_digits, last_all, last_cons, IsApart, IsSpelled}
 use Rattle.op_print.specs.Page.{Page, empty_page, Draft, nothing, word, tight, word_at, tight_at, switch, line, indent, outdent, ◌&◌, first_byte, last_byte, runs_together, hugs, wants_gap, broken, start_line, further_in, less_far_in, parted, written, put, same_state, same_switches, directive_of, with_switches, switched_to, after}
 use Rattle.op_print.specs.Scanned.{begins_as_name, IsSpellable, AreSpellable, Sign, sign, first_said, AreSaid, AreSigned, signs_before, ScansTo}
 use Rattle.op_print.specs.Spelling.{quoted, spelling}
@@ -21,7 +24,6 @@ use Rattle.op_scan.specs.declared.token.Switches.{Switches}
 use Rattle.op_scan.specs.declared.token.Token.{Token}
 use Rattle.op_scan.specs.declared.token.TokenKind.{TokenKind}
 use Rattle.op_scan.specs.declared.token.TokenKind.TheVariants as kind
-use Rattle.op_tree.proofs.ExpressionUnique.{same3}
 
 -- ---- words
 
@@ -44,7 +46,7 @@ name_is_no_mark (x ∷ text) h = start_is_no_mark x h
 
 digits_no_mark : (ds : List ℕ) → list_all (is_digit_in Decimal) ds ≡ true → nat_eq (first_byte ds) 239 ≡ false
 digits_no_mark [] h = refl
-digits_no_mark (x ∷ ds) h = digit_is_no_mark x (both_true (is_digit_in Decimal x) (list_all (is_digit_in Decimal) ds) h).0
+digits_no_mark (x ∷ ds) h = digit_is_no_mark x (and_parts (is_digit_in Decimal x) (list_all (is_digit_in Decimal) ds) h).0
 
 no_mark : (k : TokenKind) → IsSpellable k → nat_eq (first_byte (spelling k)) 239 ≡ false
 unfolding quoted
@@ -73,7 +75,7 @@ blank_first b s rest signs e h file mark before =
 blanks_first : (bs : List ℕ) (s : Switches) (rest : List ℕ) (signs : List Sign) → list_all is_blank bs ≡ true → Scanned s rest signs → Scanned s (bs ++ rest) signs
 blanks_first [] s rest signs e h = h
 blanks_first (b ∷ bs) s rest signs e h =
-    let d = both_true (is_blank b) (list_all is_blank bs) e in
+    let d = and_parts (is_blank b) (list_all is_blank bs) e in
     blank_first b s (bs ++ rest) signs d.0 (blanks_first bs s rest signs d.1 h)
 
 word_first : (k : TokenKind) (o : List Switches) (s : Switches) (rest : List ℕ) (signs : List Sign) → AreSaid o s → IsSpelled k rest → Scanned s rest signs → Scanned s (spelling k ++ rest) (sign k o ∷ signs)
@@ -100,17 +102,13 @@ record Rest (page : Page) (text : List ℕ) (signs : List Sign) : Type 0 where
   plain : nat_eq (first_byte rest) 239 ≡ false
   scanned : Scanned page.switches rest signs
 
-and_zero : (a : Bool) → (a && false) ≡ false
-and_zero true = refl
-and_zero false = refl
-
 feed_apart : (last : ℕ) → runs_together last 10 ≡ false
 unfolding runs_together is_name_byte
-feed_apart last = simp and_zero refl
+feed_apart last = simp and-false refl
 
 blank_apart : (last : ℕ) → runs_together last 32 ≡ false
 unfolding runs_together is_name_byte
-blank_apart last = simp and_zero refl
+blank_apart last = simp and-false refl
 
 first_apart : (last : ℕ) (w rest : List ℕ) → w ≢ [] → runs_together last (first_byte w) ≡ false → IsApart last (w ++ rest)
 first_apart last [] rest n h = absurd (n refl)
@@ -232,7 +230,7 @@ put_at t k o page text signs h said m r = at (runs_together (last_byte page.text
 
 brace_apart : (last : ℕ) → runs_together last 123 ≡ false
 unfolding runs_together is_name_byte
-brace_apart last = simp and_zero refl
+brace_apart last = simp and-false refl
 
 -- a directive behind what stands there
 directive_here : (s : Switches) (page : Page) (text : List ℕ) (signs : List Sign) → Rest (with_switches s (written (directive_of s) page)) text signs → Rest page text signs
@@ -260,9 +258,9 @@ same_is false false h = refl
 same_are : (s t : Switches) → same_switches s t ≡ true → t ≡ s
 unfolding same_switches
 same_are s t h =
-    let a = both_true _ _ h in
-    let b = both_true _ _ a.1 in
-    sym (same3 (λ h q r. record { h = h; q = q; r = r }) (same_is s.h t.h a.0) (same_is s.q t.q b.0) (same_is s.r t.r b.1))
+    let a = and_parts _ _ h in
+    let b = and_parts _ _ a.1 in
+    sym (ap₃ (λ h q r. record { h = h; q = q; r = r }) (same_is s.h t.h a.0) (same_is s.q t.q b.0) (same_is s.r t.r b.1))
 
 switched_is : (s : Switches) (page : Page) → (switched_to s page).switches ≡ s
 unfolding switched_to
@@ -296,7 +294,7 @@ all_take : (p : ℕ → Bool) (n : ℕ) (xs : List ℕ) → list_all p xs ≡ tr
 all_take p zero xs h = refl
 all_take p (suc n) [] h = refl
 all_take p (suc n) (x ∷ xs) h =
-    let d = both_true (p x) (list_all p xs) h in
+    let d = and_parts (p x) (list_all p xs) h in
     ap (λ t. t && list_all p (take n xs)) d.0 ∙ all_take p n xs d.1
 
 margin_kept : (d : Draft) (page : Page) → list_all is_blank page.margin ≡ true → list_all is_blank (after page d).margin ≡ true

@@ -1,8 +1,9 @@
 -- Each word of a print stands for its token, before what does not run into it.
 use Rattle.std.proofs.Common.{◌≡◌, ℕ, true, false, cond, ◌&&◌, List, [], ◌∷◌, take, Some, None, refl, ap, ◌∙◌}
 use Rattle.std.specs.Prelude.{nat_eq}
+use Rattle.std.proofs.lemmas.Bool.{or_parts}
 use Rattle.op_print.proofs.Quotes.{spelled_string}
-use Rattle.op_print.proofs.Words.{either_false, IsApart, apart_tests, IsSpelled, spelled_identifier, spelled_name, spelled_number}
+use Rattle.op_print.proofs.Words.{IsApart, apart_tests, IsSpelled, spelled_identifier, spelled_name, spelled_number}
 use Rattle.op_print.specs.Page.{last_byte}
 use Rattle.op_print.specs.Scanned.{IsSpellable}
 use Rattle.op_print.specs.Spelling.{spelling}
@@ -54,7 +55,7 @@ no_greater (x ∷ xs) h = ap (λ t. cond (t && true) (Some kind.GreaterEqual) No
 no_less : (rest : List ℕ) → IsApart 60 rest → kind_beside (60 ∷ take 1 rest) symbols_of_two ≡ None
 no_less [] h = refl
 no_less (x ∷ xs) h =
-    let e = either_false (nat_eq x 61) (nat_eq x 62) (apart_tests 60 x h).less in
+    let e = or_parts (nat_eq x 61) (nat_eq x 62) (apart_tests 60 x h).less in
     ap (λ t. cond (t && true) (Some kind.LessEqual) (cond (nat_eq x 62 && true) (Some kind.NotEqual) None)) e.0
     ∙ ap (λ t. cond (t && true) (Some kind.NotEqual) None) e.1
 

@@ -1,15 +1,16 @@
 -- The tokens of a text can be tokens: what the scanner gives keeps its bounds.
-use Rattle.std.proofs.Common.{◌≡◌, ℕ, ◌≤◌, Bool, true, false, cond, ◌&&◌, ◌||◌, List, [], ◌∷◌, ◌++◌, codes, length, map, Option, Some, None, refl, sym, ap, ◌∙◌, subst, arith}
+use Rattle.std.proofs.Common.{◌≡◌, ℕ, ◌≤◌, Bool, true, false, cond, ◌&&◌, ◌||◌, List, [], ◌∷◌, ◌++◌, codes, length, map, Option, Some, None, refl, sym, ap, ◌∙◌, subst}
 use Rattle.std.specs.Prelude.{nat_eq, nat_lt, not, unwrap_or}
+use Rattle.std.proofs.lemmas.Bool.{and_parts, ltb-false}
 use Rattle.std.specs.Char.{to_ascii_lowercase}
 use Rattle.std.specs.List.{list_all, take_while}
 use Rattle.std.specs.Str.{bytes_eq}
-use Rattle.std.proofs.lemmas.Bool.Decides.{nat_tests}
 use Rattle.std.proofs.lemmas.List.Sums.{take_while-cons}
 use Rattle.op_base.specs.declared.rule.Rule.{Rule}
 use Rattle.op_print.proofs.Printed.{Able}
-use Rattle.op_print.proofs.Words.{true_false, both_true}
+use Rattle.op_print.proofs.Words.{true_false}
 use Rattle.op_print.specs.Scanned.{IsSpellable}
+use Rattle.op_scan.proofs.Scanning.{gives_same}
 use Rattle.op_scan.specs.Byte.{begins_with, is_blank, is_name_start, is_name_byte}
 use Rattle.op_scan.specs.Directive.{rule, is_word, argument_of, switched, with_switch, effect_of_switches, effect_of_mode, effect_of_interfaces, effect_of_state, effect_of_name, effect_of_letter, effect_of_named, effect_of_directive, effect_of_comment}
 use Rattle.op_scan.specs.Item.{Item, Stands, blank, line_comment, comment, name, number, string, symbol, effect_of}
@@ -105,7 +106,7 @@ first_or_later false j k o e p h = h e
 beside_plain : (w : List ℕ) (rows : List (List ℕ × TokenKind)) (k : TokenKind) → kind_beside w rows ≡ Some k → all_plain rows ≡ true → is_plain k ≡ true
 beside_plain w [] k e h = absurd cc
 beside_plain w (row ∷ rows) k e h =
-    let b = both_true (is_plain row.1) (all_plain rows) h in
+    let b = and_parts (is_plain row.1) (all_plain rows) h in
     first_or_later (bytes_eq w row.0) row.1 k (kind_beside w rows) e b.0 (λ q. beside_plain w rows k q b.1)
 
 either_plain : (b : Bool) (x y : List (List ℕ × TokenKind)) → all_plain x ≡ true → all_plain y ≡ true → all_plain (cond b x y) ≡ true
@@ -128,9 +129,6 @@ symbol_plain w k e = beside_plain w _ k e (either_plain (nat_eq (length w) 1) sy
 
 -- ---- items
 
-gives_same : {j k : TokenKind} → Gives j ≡ Gives k → j ≡ k
-gives_same e = cc
-
 -- what is given is what stands behind a test of a bound
 within : (b : Bool) (r : Rule) (j k : TokenKind) → cond b (Breaks r) (Gives j) ≡ Gives k → (b ≡ false → IsSpellable j) → IsSpellable k
 within true r j k e h = absurd cc
@@ -148,9 +146,6 @@ name_or_word : (first : ℕ) (others : List ℕ) (o : Option TokenKind) → is_n
 name_or_word first others None b a n e = record { first = b; others = a; short = n; not_reserved = e }
 name_or_word first others (Some k) b a n e = plain_spellable k (keyword_plain (map to_ascii_lowercase (first ∷ others)) k e)
 
-at_most : (limit n : ℕ) → nat_lt limit n ≡ false → n ≤ limit
-at_most limit n h = grind (arith, nat_tests)
-
 token_spellable : {piece rest : List ℕ} {item : Item} → Stands piece rest item → (s : Switches) (k : TokenKind) → effect_of s item ≡ Gives k → IsSpellable k
 token_spellable (blank b) s k e = absurd cc
 token_spellable (line_comment {inside = inside} c) s k e = gives_not (quiet_comment s inside) e
@@ -158,9 +153,9 @@ token_spellable (comment marks {inside = inside} c) s k e = gives_not (quiet_com
 token_spellable (name {first = first} {others = others} {rest = rest} b t) s k e =
     let a : list_all is_name_byte (first ∷ others) ≡ true = ap (list_all is_name_byte) t ∙ all_taken is_name_byte (first ∷ others ++ rest) in
     within (nat_lt 127 (length (first ∷ others))) (rule 65) (unwrap_or (keyword_of (map to_ascii_lowercase (first ∷ others))) (kind.Identifier (first ∷ others))) k e
-    (λ n. name_or_word first others (keyword_of (map to_ascii_lowercase (first ∷ others))) b a (at_most 127 (length (first ∷ others)) n) refl)
-token_spellable (number base d) s k e = within _ (rule 4) _ k e (λ n. at_most 2147483648 _ n)
-token_spellable (string n p) s k e = within _ (rule 66) _ k e (λ n. at_most 65535 _ n)
+    (λ n. name_or_word first others (keyword_of (map to_ascii_lowercase (first ∷ others))) b a (ltb-false 127 (length (first ∷ others)) n) refl)
+token_spellable (number base d) s k e = within _ (rule 4) _ k e (λ n. ltb-false 2147483648 _ n)
+token_spellable (string n p) s k e = within _ (rule 66) _ k e (λ n. ltb-false 65535 _ n)
 token_spellable (symbol {piece = piece} {kind = j} q l c m) s k e = subst IsSpellable (gives_same e) (plain_spellable j (symbol_plain piece j q))
 
 -- ---- texts

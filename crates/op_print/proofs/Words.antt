@@ -1,6 +1,7 @@
 -- Each word of a print stands for its token, before what does not run into it.
 use Rattle.std.proofs.Common.{◌≡◌, ◌≢◌, ℕ, ◌+◌, ◌-◌, ◌*◌, ◌/◌, ◌%◌, ◌<◌, ◌≤◌, ◌^◌, Bool, true, false, cond, ◌&&◌, ◌||◌, List, [], ◌∷◌, ◌++◌, length, map, get_or, refl, sym, ap, ◌∙◌, subst, arith}
 use Rattle.std.specs.Prelude.{decimal, nat_eq, nat_lt, unwrap_or}
+use Rattle.std.proofs.lemmas.Bool.{and_parts, le-ltb, or_parts}
 use Rattle.std.specs.Char.{to_ascii_lowercase, digit_value}
 use Rattle.std.specs.List.{list_all, take_while}
 use Rattle.std.proofs.lemmas.Bool.Decides.{nat_tests}
@@ -25,14 +26,6 @@ use Rattle.op_scan.specs.declared.token.TokenKind.TheVariants as kind
 pub true_false : {A : Type 0} → true ≡ false → A
 true_false e = absurd cc
 
-pub either_false : (a b : Bool) → (a || b) ≡ false → (a ≡ false) × (b ≡ false)
-either_false true b h = true_false h
-either_false false b h = (refl, h)
-
-pub both_true : (a b : Bool) → (a && b) ≡ true → (a ≡ true) × (b ≡ true)
-both_true true b h = (refl, h)
-both_true false b h = true_false (sym h)
-
 pub and_false : (a b : Bool) → (a && b) ≡ false → a ≡ true → b ≡ false
 and_false true b h e = h
 and_false false b h e = true_false (sym e)
@@ -48,12 +41,12 @@ pub take_while-all : (p : ℕ → Bool) (xs rest : List ℕ) → list_all p xs �
 take_while-all p [] [] a h = refl
 take_while-all p [] (x ∷ rest) a h = take_while-cons p x rest ∙ ap (λ t. cond t (x ∷ take_while p rest) []) h
 take_while-all p (x ∷ xs) rest a h =
-    let b = both_true (p x) (list_all p xs) a in
+    let b = and_parts (p x) (list_all p xs) a in
     take_while-cons p x (xs ++ rest) ∙ ap (λ t. cond t (x ∷ take_while p (xs ++ rest)) []) b.0 ∙ ap (λ ys. x ∷ ys) (take_while-all p xs rest b.1 h)
 
 pub last_all : (p : ℕ → Bool) (x : ℕ) (xs : List ℕ) → list_all p (x ∷ xs) ≡ true → p (get_or (x ∷ xs) (length xs) 10) ≡ true
-last_all p x [] a = (both_true (p x) true a).0
-last_all p x (y ∷ xs) a = last_all p y xs (both_true (p x) (list_all p (y ∷ xs)) a).1
+last_all p x [] a = (and_parts (p x) true a).0
+last_all p x (y ∷ xs) a = last_all p y xs (and_parts (p x) (list_all p (y ∷ xs)) a).1
 
 pub last_cons : (x : ℕ) (xs : List ℕ) → last_byte (x ∷ xs) ≡ get_or (x ∷ xs) (length xs) 10
 last_cons x xs =
@@ -80,13 +73,13 @@ pub record Apart (last first : ℕ) : Type 0 where
 pub apart_tests : (last first : ℕ) → runs_together last first ≡ false → Apart last first
 unfolding runs_together
 apart_tests last first h =
-    let a = either_false _ _ h in
-    let b = either_false _ _ a.1 in
-    let c = either_false _ _ b.1 in
-    let d = either_false _ _ c.1 in
-    let e = either_false _ _ d.1 in
-    let f = either_false _ _ e.1 in
-    let g = either_false _ _ f.1 in
+    let a = or_parts _ _ h in
+    let b = or_parts _ _ a.1 in
+    let c = or_parts _ _ b.1 in
+    let d = or_parts _ _ c.1 in
+    let e = or_parts _ _ d.1 in
+    let f = or_parts _ _ e.1 in
+    let g = or_parts _ _ f.1 in
     record { names = a.0; strings = b.0; comment = c.0; line_comment = d.0; range = e.0; assignment = f.0; less = g.0; greater = g.1 }
 
 -- a word stands for its token
@@ -108,9 +101,6 @@ named : (w rest : List ℕ) → begins_as_name w ≡ true → list_all is_name_b
 named [] rest b a h = true_false (sym b)
 named (x ∷ xs) rest b a h = name b (sym (take_while-all is_name_byte (x ∷ xs) rest a h))
 
-pub in_bounds : (limit n : ℕ) → n ≤ limit → nat_lt limit n ≡ false
-in_bounds limit n h = grind (arith, nat_tests)
-
 pub spelled_name : (k : TokenKind) (rest : List ℕ) → begins_as_name (spelling k) ≡ true → list_all is_name_byte (spelling k) ≡ true → nat_lt 127 (length (spelling k)) ≡ false → unwrap_or (keyword_of (map to_ascii_lowercase (spelling k))) (kind.Identifier (spelling k)) ≡ k → IsApart (last_byte (spelling k)) rest → IsSpelled k rest
 spelled_name k rest b a n e h = record {
   item = a_name (spelling k);
@@ -119,7 +109,7 @@ spelled_name k rest b a n e h = record {
 }
 
 pub spelled_identifier : (text rest : List ℕ) → IsIdentifierText text → IsApart (last_byte text) rest → IsSpelled (kind.Identifier text) rest
-spelled_identifier text rest i h = spelled_name (kind.Identifier text) rest i.first i.others (in_bounds 127 (length text) i.short) (ap (λ o. unwrap_or o (kind.Identifier text)) i.not_reserved) h
+spelled_identifier text rest i h = spelled_name (kind.Identifier text) rest i.first i.others (le-ltb 127 (length text) i.short) (ap (λ o. unwrap_or o (kind.Identifier text)) i.not_reserved) h
 
 -- ---- numbers
 
@@ -134,7 +124,7 @@ digit_of n h = (grind (arith, nat_tests), grind (arith, nat_tests))
 pub all_append : (p : ℕ → Bool) (xs ys : List ℕ) → list_all p xs ≡ true → list_all p ys ≡ true → list_all p (xs ++ ys) ≡ true
 all_append p [] ys a b = b
 all_append p (x ∷ xs) ys a b =
-    let c = both_true (p x) (list_all p xs) a in
+    let c = and_parts (p x) (list_all p xs) a in
     ap (λ t. t && list_all p (xs ++ ys)) c.0 ∙ all_append p xs ys c.1 b
 
 value_append : (xs : List ℕ) (y : ℕ) → value_of Decimal (xs ++ y ∷ []) ≡ value_of Decimal xs * 10 + digit_value y
@@ -191,5 +181,5 @@ spelled_number n rest h a =
     record {
       item = a_number n;
       stands = number_stands n (decimal n) rest d (digits_stop (decimal n) rest d.1 d.0 a);
-      gives = λ s. ap (λ t. cond t (Breaks (rule 4)) (Gives (kind.Number n))) (in_bounds 2147483648 n h);
+      gives = λ s. ap (λ t. cond t (Breaks (rule 4)) (Gives (kind.Number n))) (le-ltb 2147483648 n h);
     }

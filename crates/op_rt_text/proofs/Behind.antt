@@ -7,7 +7,8 @@ use Rattle.op_low.specs.declared.instruction.Call.{Call as Operands}
 use Rattle.op_low.specs.declared.instruction.Instruction.{Instruction}
 use Rattle.op_low.specs.declared.instruction.Instruction.TheVariants.{Call}
 use Rattle.op_rt_text.specs.Names.{routine_id}
-use Rattle.op_rt_text.specs.Running.{Called, Copies, HasRuntime, Writes, all_written, behind}
+use Rattle.op_rt_text.specs.Running.{Called, Clears, Copies, HasRuntime, Writes, all_written, behind}
+use Rattle.op_rt_text.proofs.ClearRun.{Cleared}
 use Rattle.op_rt_text.proofs.CopyCalls.{Copied}
 use Rattle.op_rt_text.proofs.Programs.{Written, program}
 use Rattle.op_rt_text.proofs.Walks.{Walk, path_of_walk, standing}
@@ -62,6 +63,18 @@ module _ (low : Low) (p : Placement) (m : State) (r : ℕ) (arguments : List ℕ
         value = it.value;
         memory = it.memory;
         copied = it.copied;
+        steps = it.walk.steps;
+        few = omega arith;
+        path = along it.value it.memory m.output [] most (192 + 6 * count) less it.walk;
+      }
+
+  pub clears : (to count most : ℕ) → most ≤ 192 + 6 * count → Cleared (whole low p called.runtime) p m r operands rest to count most → Clears low p m operands rest to count
+  clears to count most less it =
+      let few = it.walk.few in
+      record {
+        value = it.value;
+        memory = it.memory;
+        cleared = it.cleared;
         steps = it.walk.steps;
         few = omega arith;
         path = along it.value it.memory m.output [] most (192 + 6 * count) less it.walk;

@@ -6,12 +6,13 @@ use Rattle.op_low.specs.declared.code.Low.{Low}
 use Rattle.op_low.specs.declared.instruction.Call.{Call as Operands}
 use Rattle.op_low.specs.declared.instruction.Instruction.{Instruction}
 use Rattle.op_meaning.specs.Texts.{padded, text_of_char, text_of_number, text_of_truth, width_of}
-use Rattle.op_rt_text.specs.Names.{copy_bytes_number, copy_words_number, take_number, write_blanks_number, write_bytes_number, write_char_number, write_number_number, write_truth_number}
-use Rattle.op_rt_text.specs.Running.{Allowed, Called, Copies, Copyable, HasRoom, HasTexts, StandsAt, Writes, blank_text}
-use Rattle.op_rt_text.proofs.Behind.{copies, writes}
+use Rattle.op_rt_text.specs.Names.{clear_number, copy_bytes_number, copy_words_number, take_number, write_blanks_number, write_bytes_number, write_char_number, write_number_number, write_truth_number}
+use Rattle.op_rt_text.specs.Running.{Allowed, Called, Clearable, Clears, Copies, Copyable, HasRoom, HasTexts, StandsAt, Writes, blank_text}
+use Rattle.op_rt_text.proofs.Behind.{clears, copies, writes}
 use Rattle.op_rt_text.proofs.BlanksRun.{blanks_called}
 use Rattle.op_rt_text.proofs.BytesRun.{bytes_called}
 use Rattle.op_rt_text.proofs.CharRun.{char_called}
+use Rattle.op_rt_text.proofs.ClearRun.{clear_called}
 use Rattle.op_rt_text.proofs.CopyCalls.{bytes_copied, words_called}
 use Rattle.op_rt_text.proofs.NumberRun.{number_called}
 use Rattle.op_rt_text.proofs.TakeRun.{take_called}
@@ -79,3 +80,9 @@ module _ (low : Low) (p : Placement) (m : State) (operands : Operands) (rest : L
       let runtime = called.runtime in
       copies low p m take_number (to ∷ size ∷ []) operands rest called to (word_at m.memory to) size (152 + 5 * size) (omega arith)
       (take_called runtime.others low.entry low.counts low.globals p (runtime.frames copy_words_number (omega arith)) (runtime.frames copy_bytes_number (omega arith)) (runtime.frames take_number (omega arith)) m operands rest to (word_at m.memory to) size called.passed (less_room p m 128 (omega arith) called.room) can whole word refl)
+
+  pub memory_is_zeroed : (to count : ℕ) → Clearable p m to count → Called low p m clear_number (to ∷ count ∷ []) operands rest → Clears low p m operands rest to count
+  memory_is_zeroed to count can called =
+      let runtime = called.runtime in
+      clears low p m clear_number (to ∷ count ∷ []) operands rest called to count (80 + 2 * count) (omega arith)
+      (clear_called runtime.others low.entry low.counts low.globals p m operands rest to count called.passed (runtime.frames clear_number (omega arith)) (less_room p m 64 (omega arith) called.room) can)

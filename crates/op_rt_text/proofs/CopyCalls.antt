@@ -48,7 +48,7 @@ module _ (others : List Routine) (entry : RoutineId) (named : Counts) (globals :
   abbrev low : Low
   low = program others entry named globals
 
-  pub call_copied : (m : State) (r : ℕ) (operands : Operands) (rest : List Instruction) (passed : List ℕ) → r < 8 → values m operands.arguments ≡ passed → length passed ≡ (routine_of low r).parameters → space low p r ≤ m.room → (to from count inner most : ℕ) → from + count ≤ m.limit → 1 + space low p r + length passed + inner ≤ most → CopiedBelow low p m r operands rest (slice_index passed) (block_of low r 0) (cleared low m r) to from count inner → Copied low p m r operands rest to from count most
+  pub call_copied : (m : State) (r : ℕ) (operands : Operands) (rest : List Instruction) (passed : List ℕ) → r < 9 → values m operands.arguments ≡ passed → length passed ≡ (routine_of low r).parameters → space low p r ≤ m.room → (to from count inner most : ℕ) → from + count ≤ m.limit → 1 + space low p r + length passed + inner ≤ most → CopiedBelow low p m r operands rest (slice_index passed) (block_of low r 0) (cleared low m r) to from count inner → Copied low p m r operands rest to from count most
   call_copied m r operands rest passed there are same has to from count inner most below enough body =
       let number : length operands.arguments ≡ length passed = sym (length-map operands.arguments (value m)) ∙ ap (λ vs. length vs) are in
       let before = standing m (Call (routine_id r) operands ∷ rest) in

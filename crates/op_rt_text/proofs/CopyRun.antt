@@ -1,5 +1,5 @@
 -- The routines that copy memory copy it.
-use Rattle.std.proofs.Common.{◌≡◌, ℕ, pos, zero, suc, ◌+◌, ◌-◌, ◌*◌, ◌/◌, ◌%◌, ◌^◌, ◌<◌, ◌≤◌, ◌⊎◌, inl, inr, Bool, true, false, cond, not, nat_eq, List, [], ◌∷◌, drop, length, get_or, slice_index, refl, ap, ap₂, sym, subst, ◌∙◌, arith}
+use Rattle.std.proofs.Common.{◌≡◌, ℕ, pos, zero, suc, ◌+◌, ◌-◌, ◌*◌, ◌/◌, ◌%◌, ◌^◌, ◌<◌, ◌≤◌, ◌⊎◌, inl, inr, Bool, true, false, cond, not, nat_eq, List, [], ◌∷◌, drop, get_or, slice_index, refl, ap, ap₂, sym, subst, ◌∙◌, arith}
 use Rattle.std.proofs.Math.Nat.{add-mod_right, mul-suc, mul-zero}
 use Rattle.std.proofs.lemmas.Bool.{and_from, cases_lt}
 use Rattle.std.proofs.lemmas.Bool.Decides.{nat_tests}
@@ -15,7 +15,7 @@ use Rattle.op_rt_text.specs.Running.{Allowed, HasRoom, behind}
 use Rattle.op_rt_text.proofs.BytesLemmas.{all_usable}
 use Rattle.op_rt_text.proofs.Calls.{inside, walk_leave}
 use Rattle.op_rt_text.proofs.Walks.{Walk, standing, walk_branch, walk_jump, walk_load, walk_longer, walk_past, walk_store, walk_then}
-use Rattle.op_rv.proofs.Memory.{with_bytes-outside, with_bytes-within}
+use Rattle.op_rv.proofs.Memory.{byte_from, length-bytes_from, with_bytes-outside, with_bytes-within}
 use Rattle.op_rv.specs.Operation.{branch_taken, imm_value, word_from}
 use Rattle.op_rv.specs.State.{all_from, bytes_from, with_bytes, word_at}
 use Rattle.op_rv.specs.Step.{can_access, load_size_of, load_value, offset_from, store_size_of}
@@ -33,21 +33,8 @@ pub record Moved (before after : ℕ → ℕ) (t f k : ℕ) : Type 0 where
   pub within : (j : ℕ) → j < k → after (t + j) ≡ before (f + j)
   pub outside : (x : ℕ) → (t ≤ x → x < t + k → ⊥) → after x ≡ before x
 
-pub length-bytes_from : (memory : ℕ → ℕ) (a n : ℕ) → length (bytes_from memory a n) ≡ n
-unfolding bytes_from
-length-bytes_from memory a zero = refl
-length-bytes_from memory a (suc n) = ap suc (length-bytes_from memory (a + 1) n)
-
-pub byte_from : (memory : ℕ → ℕ) (a n j : ℕ) → j < n → get_or (bytes_from memory a n) j 0 ≡ memory (a + j)
-unfolding bytes_from
-byte_from memory a zero j before = absurd (omega arith)
-byte_from memory a (suc n) zero before = ap memory (omega arith)
-byte_from memory a (suc n) (suc j) before =
-    let there : a + 1 + j ≡ a + suc j = omega arith in
-    byte_from memory (a + 1) n j (omega arith) ∙ ap memory there
-
 -- what is stored from a load
-moved_unit : (memory : ℕ → ℕ) (t f n : ℕ) → Moved memory (with_bytes memory t (bytes_from memory f n)) t f n
+pub moved_unit : (memory : ℕ → ℕ) (t f n : ℕ) → Moved memory (with_bytes memory t (bytes_from memory f n)) t f n
 moved_unit memory t f n =
     let size = length-bytes_from memory f n in
     record {
@@ -60,7 +47,7 @@ moved_unit memory t f n =
     }
 
 -- a copy in two parts, the first bytes first
-moved_on : (memory middle after : ℕ → ℕ) (t f n k : ℕ) → (f + (n + k) ≤ t) ⊎ (t ≤ f) → Moved memory middle t f n → Moved middle after (t + n) (f + n) k → Moved memory after t f (n + k)
+pub moved_on : (memory middle after : ℕ → ℕ) (t f n k : ℕ) → (f + (n + k) ≤ t) ⊎ (t ≤ f) → Moved memory middle t f n → Moved middle after (t + n) (f + n) k → Moved memory after t f (n + k)
 moved_on memory middle after t f n k apart first second =
     record {
       within = λ j before.

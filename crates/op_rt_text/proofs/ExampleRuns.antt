@@ -1,8 +1,8 @@
 -- Calls of the run-time routines, run by computation.
-use Rattle.std.proofs.Common.{◌≡◌, [], ◌∷◌, codes, refl}
+use Rattle.std.proofs.Common.{◌≡◌, [], ◌∷◌, ◌++◌, codes, refl}
 use Rattle.op_low.specs.Machine.{act, call, done, load, start, step, step_by_ending, store, write}
 use Rattle.op_rt_text.specs.Example.{ended_call}
-use Rattle.op_rt_text.specs.Names.{copy_bytes_number, copy_words_number, take_number, write_blanks_number, write_bytes_number, write_char_number, write_number_number, write_truth_number}
+use Rattle.op_rt_text.specs.Names.{clear_number, copy_bytes_number, copy_words_number, take_number, write_blanks_number, write_bytes_number, write_char_number, write_number_number, write_truth_number}
 use Rattle.op_rt_text.specs.Running.{blank_text}
 use Rattle.op_rv.specs.State.{all_from, bytes_from}
 use Rattle.op_simulation.specs.System.{run}
@@ -54,6 +54,10 @@ bytes_copied = refl
 pub words_copied : bytes_from (ended_call copy_words_number (4096 ∷ 64 ∷ 8 ∷ [])).memory 4096 8 ≡ codes "TRUEFALS"
 unfolding run start step step_by_ending done act call load store write all_from bytes_from
 words_copied = refl
+
+pub word_cleared : bytes_from (ended_call clear_number (68 ∷ 4 ∷ [])).memory 66 8 ≡ codes "UE" ++ 0 ∷ 0 ∷ 0 ∷ 0 ∷ codes "E "
+unfolding run start step step_by_ending done act call load store write all_from bytes_from
+word_cleared = refl
 
 pub value_taken : bytes_from (ended_call take_number (4096 ∷ 6 ∷ [])).memory 4096 6 ≡ codes "      "
 unfolding run start step step_by_ending done act call load store write all_from bytes_from

@@ -4,6 +4,7 @@ pub mod BytesLemmas
 pub mod BytesRun
 pub mod Calls
 pub mod CharRun
+pub mod ClearRun
 pub mod Contracts
 pub mod CopyCalls
 pub mod CopyRun

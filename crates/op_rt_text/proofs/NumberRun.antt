@@ -22,10 +22,11 @@ use Rattle.op_rt_text.specs.Running.{HasRoom, StandsAt}
 use Rattle.op_rt_text.proofs.Calls.{cleared, inside}
 use Rattle.op_rt_text.proofs.CharRun.{byte_storable}
 use Rattle.op_rt_text.proofs.Programs.{Written, WrittenInside, call_written, program, then_written}
-use Rattle.op_rt_text.proofs.Signs.{at_least_low, less_negative, not_below_zero, signed_high, signed_low}
+use Rattle.op_rt_text.proofs.Signs.{at_least_low, less_negative, signed_high, signed_low}
 use Rattle.op_rt_text.proofs.ThenBytes.{bytes_last}
 use Rattle.op_rt_text.proofs.Walks.{Walk, walk_branch, walk_longer, walk_past, walk_store, walk_then}
 use Rattle.op_rv.proofs.Memory.{bytes_there, with_bytes-above, with_bytes-below, with_bytes-within}
+use Rattle.op_rv.proofs.Numbers.{not_negative}
 use Rattle.op_rv.specs.Operation.{alu_value, branch_taken, imm_value, signed, word_from}
 use Rattle.op_rv.specs.State.{with_bytes}
 use Rattle.op_rv.specs.Step.{can_access, offset_from}
@@ -55,7 +56,7 @@ decimal_length (suc k) n =
 number_of_low : (value : ℕ) → value < 2 ^ 31 → text_of_number (signed value) ≡ decimal_by 10 value
 number_of_low value small =
     ap text_of_number (signed_low value small)
-    ∙ cond-false (int_lt (pos value) (pos 0)) (45 ∷ decimal_by 10 value) (decimal_by 10 value) (not_below_zero value)
+    ∙ cond-false (int_lt (pos value) (pos 0)) (45 ∷ decimal_by 10 value) (decimal_by 10 value) (not_negative value)
 
 number_of_high : (value : ℕ) → 2 ^ 31 ≤ value → value < 2 ^ 32 → text_of_number (signed value) ≡ 45 ∷ decimal_by 10 (2 ^ 32 - value)
 number_of_high value great word =

@@ -91,7 +91,7 @@ module _ (others : List Routine) (entry : RoutineId) (named : Counts) (globals :
   abbrev low : Low
   low = program others entry named globals
 
-  pub may_enter : (r : ℕ) (m : State) (arguments : List VirtualRegister) (passed : List ℕ) → r < 8 → values m arguments ≡ passed → length passed ≡ (routine_of low r).parameters → space low p r ≤ m.room → can_enter low p r (length arguments) m ≡ true
+  pub may_enter : (r : ℕ) (m : State) (arguments : List VirtualRegister) (passed : List ℕ) → r < 9 → values m arguments ≡ passed → length passed ≡ (routine_of low r).parameters → space low p r ≤ m.room → can_enter low p r (length arguments) m ≡ true
   may_enter r m arguments passed there are same has =
       let number : length arguments ≡ (routine_of low r).parameters = sym (length-map arguments (value m)) ∙ ap (λ vs. length vs) are ∙ same in
       let all = length-append runtime_routines others in
@@ -101,7 +101,7 @@ module _ (others : List Routine) (entry : RoutineId) (named : Counts) (globals :
       and_from _ _ (and_from _ _ first second) third
 
   -- a call of a routine that writes, from what its code does
-  pub call_written : (m : State) (r : ℕ) (operands : Operands) (rest : List Instruction) (passed : List ℕ) → r < 8 → values m operands.arguments ≡ passed → length passed ≡ (routine_of low r).parameters → space low p r ≤ m.room → (bytes : List ℕ) (inner most : ℕ) → 1 + space low p r + length passed + inner ≤ most → WrittenInside low p m r operands rest (slice_index passed) (block_of low r 0) (cleared low m r) m.output bytes inner → Written low p m r operands rest bytes most
+  pub call_written : (m : State) (r : ℕ) (operands : Operands) (rest : List Instruction) (passed : List ℕ) → r < 9 → values m operands.arguments ≡ passed → length passed ≡ (routine_of low r).parameters → space low p r ≤ m.room → (bytes : List ℕ) (inner most : ℕ) → 1 + space low p r + length passed + inner ≤ most → WrittenInside low p m r operands rest (slice_index passed) (block_of low r 0) (cleared low m r) m.output bytes inner → Written low p m r operands rest bytes most
   call_written m r operands rest passed there are same has bytes inner most enough body =
       let number : length operands.arguments ≡ length passed = sym (length-map operands.arguments (value m)) ∙ ap (λ vs. length vs) are in
       let before = standing m (Call (routine_id r) operands ∷ rest) in

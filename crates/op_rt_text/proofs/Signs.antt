@@ -4,6 +4,7 @@ use Rattle.std.proofs.lemmas.Bool.{cond-false}
 use Rattle.std.proofs.lemmas.Bool.Decides.{nat_tests}
 use Rattle.std.proofs.lemmas.Int.{ints}
 use Rattle.op_meaning.specs.Texts.{width_of}
+use Rattle.op_rv.proofs.Numbers.{not_negative}
 use Rattle.op_rv.specs.Operation.{branch_taken, signed}
 use Rattle.op_rv.specs.declared.instruction.BranchOp.TheVariants.{Bge}
 
@@ -15,13 +16,8 @@ signed_high a great small =
     let test : nat_lt a (2 ^ 31) ≡ false = grind (arith, nat_tests) in
     rw test (ap negsuc (omega arith))
 
-pub not_below_zero : (a : ℕ) → int_lt (pos a) (pos 0) ≡ false
-not_below_zero a =
-    let test : nat_lt a 0 ≡ false = grind (arith, nat_tests) in
-    test
-
 pub width_low : (a : ℕ) → a < 2 ^ 31 → width_of (signed a) ≡ a
-width_low a small = ap width_of (signed_low a small) ∙ cond-false (int_lt (pos a) (pos 0)) 0 a (not_below_zero a)
+width_low a small = ap width_of (signed_low a small) ∙ cond-false (int_lt (pos a) (pos 0)) 0 a (not_negative a)
 
 pub width_high : (a : ℕ) → 2 ^ 31 ≤ a → a < 2 ^ 32 → width_of (signed a) ≡ 0
 width_high a great small = ap width_of (signed_high a great small)

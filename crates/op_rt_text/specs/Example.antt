@@ -37,7 +37,7 @@ abbrev calling : ℕ → List ℕ → Low
 calling number words =
     record {
       routines = runtime_routines ++ (entry number words ∷ []);
-      entry = routine_id 8;
+      entry = routine_id 9;
       counts = record { literals = 3; tables = 0; descriptors = 0 };
       globals = [];
     }

@@ -1,6 +1,7 @@
 pub mod Blanks
 pub mod Bytes
 pub mod Char
+pub mod Clear
 pub mod Copying
 pub mod Example
 pub mod Names

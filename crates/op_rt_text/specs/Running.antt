@@ -1,5 +1,5 @@
 -- How a call of a run-time routine runs on the machine of low code.
-use Rattle.std.specs.Prelude.{◌≡◌, ◌≢◌, ◌<◌, ◌≤◌, ℕ, ◌+◌, ◌*◌, ◌^◌, ◌⊎◌, Bool, true, List, [], ◌∷◌, ◌++◌, codes, length, map, replicate, slice_index}
+use Rattle.std.specs.Prelude.{◌≡◌, ◌≢◌, ◌<◌, ◌≤◌, ℕ, ◌+◌, ◌*◌, ◌%◌, ◌^◌, ◌⊎◌, Bool, true, List, [], ◌∷◌, ◌++◌, codes, length, map, replicate, slice_index}
 use Rattle.std.specs.List.{concat}
 use Rattle.op_low.specs.Machine.{Event, Written, low_machine}
 use Rattle.op_low.specs.State.{Bad, Placement, Running, State, values, with_value}
@@ -53,6 +53,13 @@ pub record Copyable (p : Placement) (m : State) (to from count : ℕ) : Type 0 w
   pub bytes : (x : ℕ) → from ≤ x → x < from + count → m.memory x < 2 ^ 8
   pub apart : (from + count ≤ to) ⊎ (to ≤ from)
 
+-- so many bytes at an address may be written, by whole words and one at least
+pub record Clearable (p : Placement) (m : State) (to count : ℕ) : Type 0 where
+  pub target : Allowed p.rights.writable m.limit to count
+  pub aligned : to % 4 ≡ 0
+  pub whole : count % 4 ≡ 0
+  pub some : 0 < count
+
 -- ---- a call
 
 abbrev pub blank_text : ℕ → List ℕ
@@ -98,6 +105,16 @@ pub record Copies (low : Low) (p : Placement) (m : State) (operands : Operands) 
   pub value : ℕ
   pub memory : ℕ → ℕ
   pub copied : (x : ℕ) → x < m.limit → memory x ≡ with_bytes m.memory to (bytes_from m.memory from count) x
+  pub steps : ℕ
+  pub few : steps ≤ 192 + 6 * count
+  pub path : Path (low_machine low p) (λ s. s.ending ≢ Bad) m (behind m operands rest value memory m.output) steps [] (192 + 6 * count)
+
+-- The call comes to the state behind it after so many steps at most, at that cost and never bad. It writes nothing, and below the limit
+-- it changes memory alone at so many bytes, which become zeros.
+pub record Clears (low : Low) (p : Placement) (m : State) (operands : Operands) (rest : List Instruction) (to count : ℕ) : Type 0 where
+  pub value : ℕ
+  pub memory : ℕ → ℕ
+  pub cleared : (x : ℕ) → x < m.limit → memory x ≡ with_bytes m.memory to (replicate {A = ℕ} count 0) x
   pub steps : ℕ
   pub few : steps ≤ 192 + 6 * count
   pub path : Path (low_machine low p) (λ s. s.ending ≢ Bad) m (behind m operands rest value memory m.output) steps [] (192 + 6 * count)

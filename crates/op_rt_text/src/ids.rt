@@ -3,7 +3,7 @@
 use op_rv::{LiteralId, RoutineId};
 
 /// How many there are.
-pub const RUNTIME: u32 = 8;
+pub const RUNTIME: u32 = 9;
 
 /// `(to, size)`: takes the address of a value from where the value is to go, which is a multiple of 4, and copies it there.
 pub const TAKE: RoutineId = RoutineId(0);
@@ -28,6 +28,9 @@ pub const WRITE_TRUTH: RoutineId = RoutineId(6);
 
 /// `(value, width)`: writes the byte that the low eight bits are.
 pub const WRITE_CHAR: RoutineId = RoutineId(7);
+
+/// `(to, count)`: puts `count` zeros in memory, one at least. The address and the count are multiples of 4.
+pub const CLEAR: RoutineId = RoutineId(8);
 
 /// The literal of 64 blanks.
 pub const BLANKS: LiteralId = LiteralId(0);

@@ -1,6 +1,6 @@
 //! The run-time routines in low code, which every compiled program has as its first routines.
 //!
-//! They copy bytes of memory, and write numbers, truths, characters and texts to the output, with blanks in front up to a width. `routines`
+//! They copy bytes of memory or make zeros of them, and write numbers, truths, characters and texts to the output, with blanks in front up to a width. `routines`
 //! gives their code, exactly that of `specs/Runtime.antt`. Where it names literals, they are the first three of the program: 64 blanks,
 //! `TRUE` and `FALSE`.
 #![tactic(auto)]
@@ -8,6 +8,7 @@
 mod blanks;
 mod bytes;
 mod character;
+mod clearing;
 mod copying;
 mod ids;
 mod number;
@@ -18,7 +19,7 @@ mod theorems;
 mod truth;
 
 pub use ids::{
-    BLANKS, COPY_BYTES, COPY_WORDS, FALSE_TEXT, RUNTIME, TAKE, TRUE_TEXT, WRITE_BLANKS,
+    BLANKS, CLEAR, COPY_BYTES, COPY_WORDS, FALSE_TEXT, RUNTIME, TAKE, TRUE_TEXT, WRITE_BLANKS,
     WRITE_BYTES, WRITE_CHAR, WRITE_NUMBER, WRITE_TRUTH,
 };
 pub use runtime::routines;

@@ -5,6 +5,7 @@ ghost use Rattle.std.specs.Prelude.{◌≡◌, IfOk};
 use crate::blanks::write_blanks;
 use crate::bytes::write_bytes;
 use crate::character::write_char;
+use crate::clearing::clear;
 use crate::copying::{copy_bytes, copy_words};
 use crate::number::write_number;
 use crate::taking::take;
@@ -26,5 +27,6 @@ pub fn routines(alloc: Global) -> Result<Vec<Routine>, NoMemory>
     routines.push(write_number(alloc)?)?;
     routines.push(write_truth(alloc)?)?;
     routines.push(write_char(alloc)?)?;
+    routines.push(clear(alloc)?)?;
     Ok(routines)
 }

@@ -7,8 +7,8 @@ ghost use Rattle.op_low.specs.declared.instruction.Call.{Call};
 ghost use Rattle.op_low.specs.declared.instruction.Instruction.{Instruction};
 ghost use Rattle.op_meaning.specs.Texts.{padded, text_of_char, text_of_number, text_of_truth, width_of};
 ghost use Rattle.op_rt_text.specs.Example.{ended_call};
-ghost use Rattle.op_rt_text.specs.Names.{copy_bytes_number, copy_words_number, take_number, write_blanks_number, write_bytes_number, write_char_number, write_number_number, write_truth_number};
-ghost use Rattle.op_rt_text.specs.Running.{Allowed, Called, Copies, Copyable, HasTexts, StandsAt, Writes, blank_text};
+ghost use Rattle.op_rt_text.specs.Names.{clear_number, copy_bytes_number, copy_words_number, take_number, write_blanks_number, write_bytes_number, write_char_number, write_number_number, write_truth_number};
+ghost use Rattle.op_rt_text.specs.Running.{Allowed, Called, Clearable, Clears, Copies, Copyable, HasTexts, StandsAt, Writes, blank_text};
 ghost use Rattle.op_rt_text.specs.Runtime.{runtime_routines};
 ghost use Rattle.op_rv.specs.Operation.{signed};
 ghost use Rattle.op_rv.specs.State.{bytes_from, word_at};
@@ -25,12 +25,14 @@ pub fn texts_are_written()
     ensures character { (low : Low) (p : Placement) (m : State) (operands : Call) (rest : List Instruction) (value width : ℕ) → HasTexts p m → Called low p m write_char_number (value ∷ width ∷ []) operands rest → Writes low p m operands rest (padded (width_of (signed width)) (text_of_char (signed value))) }
 {}
 
-/// A call of a routine that copies leaves memory below the limit as it was but for exactly the bytes that were to be copied, and comes
-/// back with the caller as it was. It takes at most 192 steps, and 6 a byte, at that cost.
+/// A call of a routine that copies leaves memory below the limit as it was but for exactly the bytes that were to be copied, and one of the
+/// routine that clears but for exactly the bytes that become zeros; each comes back with the caller as it was. It takes at most 192 steps,
+/// and 6 a byte, at that cost.
 pub fn memory_is_copied()
     ensures words { (low : Low) (p : Placement) (m : State) (operands : Call) (rest : List Instruction) (to from count : ℕ) → Copyable p m to from count → to % 4 ≡ 0 → from % 4 ≡ 0 → count % 4 ≡ 0 → Called low p m copy_words_number (to ∷ from ∷ count ∷ []) operands rest → Copies low p m operands rest to from count }
     ensures bytes { (low : Low) (p : Placement) (m : State) (operands : Call) (rest : List Instruction) (to from count : ℕ) → Copyable p m to from count → Called low p m copy_bytes_number (to ∷ from ∷ count ∷ []) operands rest → Copies low p m operands rest to from count }
     ensures take { (low : Low) (p : Placement) (m : State) (operands : Call) (rest : List Instruction) (to size : ℕ) → Copyable p m to (word_at m.memory to) size → to % 4 ≡ 0 → Allowed p.rights.readable m.limit to 4 → Called low p m take_number (to ∷ size ∷ []) operands rest → Copies low p m operands rest to (word_at m.memory to) size }
+    ensures zeros { (low : Low) (p : Placement) (m : State) (operands : Call) (rest : List Instruction) (to count : ℕ) → Clearable p m to count → Called low p m clear_number (to ∷ count ∷ []) operands rest → Clears low p m operands rest to count }
 {}
 
 /// The run-time routines are valid in each program that has them in front and its three literals.
@@ -52,5 +54,6 @@ pub fn examples_run()
     ensures no_blanks { (ended_call write_blanks_number (4294967295 ∷ [])).output ≡ [] }
     ensures bytes_copied { bytes_from (ended_call copy_bytes_number (4096 ∷ 65 ∷ 3 ∷ [])).memory 4096 3 ≡ codes "RUE" }
     ensures words_copied { bytes_from (ended_call copy_words_number (4096 ∷ 64 ∷ 8 ∷ [])).memory 4096 8 ≡ codes "TRUEFALS" }
+    ensures word_cleared { bytes_from (ended_call clear_number (68 ∷ 4 ∷ [])).memory 66 8 ≡ codes "UE" ++ 0 ∷ 0 ∷ 0 ∷ 0 ∷ codes "E " }
     ensures value_taken { bytes_from (ended_call take_number (4096 ∷ 6 ∷ [])).memory 4096 6 ≡ codes "      " }
 {}

@@ -1,2 +1,4 @@
+pub mod Environment
 pub mod Memory
+pub mod Numbers
 pub mod Table

@@ -135,3 +135,17 @@ pub can_access_word : (right : ℕ → Bool) (a : ℕ) → a % 4 ≡ 0 → ((x :
 can_access_word right a whole has =
     let aligned : nat_eq (a % 4) 0 ≡ true = grind (arith, nat_tests) in
     and_from (nat_eq (a % 4) 0) (all_from right a 4) aligned (all_of right a 4 has)
+
+-- so many bytes, and each of them
+pub length-bytes_from : (memory : ℕ → ℕ) (a n : ℕ) → length (bytes_from memory a n) ≡ n
+unfolding bytes_from
+length-bytes_from memory a zero = refl
+length-bytes_from memory a (suc n) = ap suc (length-bytes_from memory (a + 1) n)
+
+pub byte_from : (memory : ℕ → ℕ) (a n j : ℕ) → j < n → get_or (bytes_from memory a n) j 0 ≡ memory (a + j)
+unfolding bytes_from
+byte_from memory a zero j before = absurd (omega arith)
+byte_from memory a (suc n) zero before = ap memory (omega arith)
+byte_from memory a (suc n) (suc j) before =
+    let there : a + 1 + j ≡ a + suc j = omega arith in
+    byte_from memory (a + 1) n j (omega arith) ∙ ap memory there

@@ -1,6 +1,6 @@
 -- What a step does, one row an instruction, and a run of steps (RISC-V Unprivileged ISA manual, "RV32I Base Integer
 -- Instruction Set").
-use Rattle.std.specs.Prelude.{ℕ, ℤ, zero, suc, ◌+◌, ◌*◌, ◌/◌, ◌%◌, ◌^◌, Option, Some, None, Bool, ◌&&◌, nat_eq, if◌then◌else◌}
+use Rattle.std.specs.Prelude.{◌≡◌, ℕ, ℤ, zero, suc, ◌+◌, ◌*◌, ◌/◌, ◌%◌, ◌^◌, Option, Some, None, Bool, true, ◌&&◌, nat_eq, if◌then◌else◌}
 use Rattle.std.specs.Int.{bytes_low_first}
 use Rattle.op_rv.specs.State.{State, Running, Ended, Faulted, Ending, register, with_register, advanced, faulted, half_at, word_at, all_from, with_bytes}
 use Rattle.op_rv.specs.Environment.{environment_call}
@@ -100,6 +100,13 @@ step_by_ending (Faulted kind pc) s = s
 -- a step; a machine that has ended or faulted stays
 unfoldable pub step : State → State
 step s = step_by_ending s.ending s
+
+-- the next step is the environment call that reads, ECALL 63
+pub record CallsRead (s : State) : Type 0 where
+  pub runs : s.ending ≡ Running
+  pub fetched : can_fetch s ≡ true
+  pub call : instr_at (word_at s.memory s.pc) ≡ Some Ecall
+  pub number : register s 17 ≡ 63
 
 -- so many steps
 unfoldable pub after : ℕ → State → State

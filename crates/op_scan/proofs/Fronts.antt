@@ -4,11 +4,11 @@ use Rattle.std.specs.Prelude.{nat_eq, not}
 use Rattle.std.proofs.Math.Seq.{take-append_seam, take-append-add, drop-append-add, drop-append_seam}
 use Rattle.std.proofs.lemmas.Bool.{false≢true}
 use Rattle.std.proofs.lemmas.Bool.Decides.{nat_tests, Decides-ltb}
-use Rattle.std.proofs.lemmas.List.{take-append-drop, length-take}
+use Rattle.std.proofs.lemmas.List.{take-append-drop, length-take, nil_from_length}
 use Rattle.std.specs.List.{prefix_len, take_while}
 use Rattle.op_scan.proofs.Classes.{Means, class_means, ascii_is_digit}
 use Rattle.op_scan.proofs.Items.{shape_at, append_cancel}
-use Rattle.op_scan.proofs.Lists.{head_eq, begins_true, nil_of_length}
+use Rattle.op_scan.proofs.Lists.{head_eq, begins_true}
 use Rattle.op_scan.proofs.Nesting.{closes_inside, length_marks}
 use Rattle.op_scan.proofs.Strings.{digits_front, digits_are, Parts-unique, parts_front}
 use Rattle.op_scan.specs.Byte.{is_name_start, is_name_byte, is_blank, is_digit_in, begins_with}
@@ -164,7 +164,7 @@ module _ (bytes rest text : List ℕ) (d : Parts bytes rest text) where
   string_missing c none piece after item front h =
       let s = shape_at bytes piece after item class.String front c h in
       let same = (Parts-unique bytes rest text d after s.0 s.2).0 in
-      s.1 (nil_of_length piece (omega (arith, none, ap length front, length-append piece after, ap length same)))
+      s.1 (nil_from_length piece (omega (arith, none, ap length front, length-append piece after, ap length same)))
 
 pub hash_rule : (bytes : List ℕ) → begins_with bytes 35 ≡ true → rule_without bytes ≡ rule 5
 unfolding rule_without

@@ -3,10 +3,10 @@ use Rattle.std.proofs.Common.{◌≡◌, ◌≢◌, ℕ, Bool, true, false, cond
 use Rattle.std.specs.Prelude.{nat_eq, not}
 use Rattle.std.specs.Str.{bytes_eq}
 use Rattle.std.proofs.Math.Seq.{take-append_seam}
-use Rattle.std.proofs.lemmas.Bool.{eqb-true, eq-eqb, false≢true}
-use Rattle.std.proofs.lemmas.Option.{none-some}
+use Rattle.std.proofs.lemmas.Bool.{eqb-true, eq-eqb, false≢true, and_parts, or_left, or_right}
+use Rattle.std.proofs.lemmas.Option.{none-some, same_Some}
 use Rattle.std.specs.List.{take_while}
-use Rattle.op_scan.proofs.Lists.{head_eq, tail_eq, both_true}
+use Rattle.op_scan.proofs.Lists.{head_eq, tail_eq}
 use Rattle.op_scan.proofs.Nesting.{Closes-unique}
 use Rattle.op_scan.proofs.Strings.{append_nil, digits_are, digit_head, Parts-unique, part_cases, in_quotes, by_decimal, by_hexadecimal}
 use Rattle.op_scan.proofs.Classes.{class_name, class_blank, class_digit}
@@ -46,9 +46,6 @@ fronts (x ∷ p) r (y ∷ p') r' e =
     (λ h. inr (h.0, ap (λ z. z ∷ p) (head_eq e) ∙ ap (λ zs. y ∷ zs) h.1, h.2))
     (fronts p r p' r' (tail_eq e))
 
-some_same : {X : Type 0} {x y : X} → Some x ≡ Some y → x ≡ y
-some_same e = cc
-
 -- ---- the shape of an item of a class
 
 abbrev pub Shape : Class → List ℕ → List ℕ → List ℕ → Item → Type 0
@@ -70,16 +67,8 @@ same_first : (word row : List ℕ) (first : ℕ) (others : List ℕ) → word �
 same_first [] row first others w h = absurd cc
 same_first (x ∷ xs) [] first others w h = absurd (false≢true h)
 same_first (x ∷ xs) (y ∷ ys) first others w h =
-    let p = both_true (eqb x y) (bytes_eq xs ys) h in
+    let p = and_parts (eqb x y) (bytes_eq xs ys) h in
     eq-eqb y first (sym (eqb-true x y p.0) ∙ head_eq w)
-
-or_left : (a b : Bool) → a ≡ true → (a || b) ≡ true
-or_left true b h = refl
-or_left false b h = absurd (false≢true h)
-
-or_right : (a b : Bool) → b ≡ true → (a || b) ≡ true
-or_right true b h = refl
-or_right false b h = h
 
 or_elim : {X : Type 0} (a b : Bool) → (a || b) ≡ true → (a ≡ true → X) → (b ≡ true → X) → X
 or_elim true b h f g = f refl
@@ -320,7 +309,7 @@ module _ (bytes p r p' r' : List ℕ) (e : bytes ≡ p ++ r) (e' : bytes ≡ p' 
       (λ f. sym (not_longer p' r' p r f.0 h'.0 h.0 h'.1 h.1 h'.2 f.1 f.2))
       (fronts p r p' r' (sym e ∙ e'))
       in
-      let k : h.0 ≡ h'.0 = some_same (sym h.1 ∙ ap symbol_of q ∙ h'.1) in
+      let k : h.0 ≡ h'.0 = same_Some _ _ (sym h.1 ∙ ap symbol_of q ∙ h'.1) in
       (q, h.3 ∙ ap a_symbol k ∙ sym h'.3)
 
   shape_unique : (k : Class) (i i' : Item) → Shape k bytes p r i → Shape k bytes p' r' i' → Same i i'

@@ -1,16 +1,12 @@
 -- Quoted parts of strings, byte by byte.
 use Rattle.std.proofs.Common.{◌≡◌, ℕ, Bool, true, false, cond, eqb, ◌||◌, List, [], ◌∷◌, ◌++◌, refl, sym, ap, ◌∙◌, subst, append_assoc}
-use Rattle.std.proofs.lemmas.Bool.{eqb-true, eqb-false, eq-eqb, false≢true}
+use Rattle.std.proofs.lemmas.Bool.{eqb-true, eqb-false, eq-eqb, false≢true, or_parts}
 use Rattle.std.proofs.lemmas.Grind.{flat_map-append}
 use Rattle.std.proofs.lemmas.List.Folds.{list_any-append}
 use Rattle.std.specs.List.{list_any}
 use Rattle.op_scan.proofs.Lists.{head_eq, tail_eq}
 use Rattle.op_scan.specs.Byte.{is_line_end, begins_with}
 use Rattle.op_scan.specs.Literal.{double_of, doubled, IsQuoted, AddsQuoted}
-
-either_false : (a b : Bool) → (a || b) ≡ false → (a ≡ false) × (b ≡ false)
-either_false true b h = absurd (false≢true (sym h))
-either_false false b h = (refl, h)
 
 -- how the inside of a quoted part begins
 pub data QuotedCase (byte : ℕ) (after text rest : List ℕ) : Type 0 where
@@ -28,7 +24,7 @@ cases_at byte after x xs rest false t e p one_line last =
 pub quoted_cases : (byte : ℕ) (after text rest : List ℕ) → IsQuoted (byte ∷ after) text rest → QuotedCase byte after text rest
 quoted_cases byte after [] rest q = shut (head_eq q.spelled) refl (tail_eq q.spelled) q.last
 quoted_cases byte after (x ∷ xs) rest q =
-    let p = either_false (is_line_end x) (list_any is_line_end xs) q.one_line in
+    let p = or_parts (is_line_end x) (list_any is_line_end xs) q.one_line in
     cases_at byte after x xs rest (eqb x 39) refl q.spelled p.0 p.1 q.last
 
 pub not_empty : (text rest : List ℕ) → IsQuoted [] text rest → ⊥
@@ -60,7 +56,7 @@ doubled_more done after spelling byte h =
     ap (λ xs. xs ++ after) (flat_map-append double_of done (byte ∷ []) ∙ ap (λ xs. doubled done ++ (xs ++ [])) h)
     ∙ append_assoc (doubled done) (spelling ++ []) after ∙ ap (λ xs. doubled done ++ xs) (append_assoc spelling [] after)
 
-line_more : (done : List ℕ) (byte : ℕ) → list_any is_line_end done ≡ false → is_line_end byte ≡ false → list_any is_line_end (done ++ byte ∷ []) ≡ false
+pub line_more : (done : List ℕ) (byte : ℕ) → list_any is_line_end done ≡ false → is_line_end byte ≡ false → list_any is_line_end (done ++ byte ∷ []) ≡ false
 line_more done byte d h =
     list_any-append is_line_end done (byte ∷ []) ∙ ap (λ b. b || (is_line_end byte || false)) d ∙ ap (λ b. b || false) h
 

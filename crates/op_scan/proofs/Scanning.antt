@@ -1,12 +1,11 @@
 -- The loop over a text, and that a text has one outcome.
 use Rattle.std.proofs.Common.{◌≡◌, ◌≢◌, ℕ, ◌+◌, ◌^◌, ◌<◌, ◌≤◌, List, [], ◌∷◌, ◌++◌, take, drop, length, Some, None, Result, Ok, Err, refl, sym, ap, ◌∙◌, subst, append_assoc, length-append, arith}
-use Rattle.std.proofs.lemmas.List.{take-append-drop, length-take, length-drop}
+use Rattle.std.proofs.lemmas.List.{take-append-drop, length-take, length-drop, nil_from_length}
 use Rattle.op_base.specs.declared.place.Place.{Place}
 use Rattle.op_base.specs.declared.rule.Refusal.{Refusal}
 use Rattle.op_base.specs.declared.rule.Rule.{Rule}
 use Rattle.op_scan.proofs.Items.{Stands-unique, append_cancel, no_symbol_empty}
 use Rattle.op_scan.proofs.Places.{place_bounds, place_begin}
-use Rattle.op_scan.proofs.Lists.{nil_of_length}
 use Rattle.op_scan.proofs.Strings.{append_nil}
 use Rattle.op_scan.specs.Comment.{opening, closing}
 use Rattle.op_scan.specs.Item.{Item, Stands, blank, line_comment, comment, name, number, string, symbol, IsFront, stands, nothing as no_front, effect_of, rule_without}
@@ -70,7 +69,7 @@ module _ (bytes p r p' r' : List ℕ) (i i' : Item) (e : bytes ≡ p ++ r) (h : 
 passes_same : {s t : Switches} → Passes s ≡ Passes t → s ≡ t
 passes_same e = cc
 
-gives_same : {s t : TokenKind} → Gives s ≡ Gives t → s ≡ t
+pub gives_same : {s t : TokenKind} → Gives s ≡ Gives t → s ≡ t
 gives_same e = cc
 
 breaks_same : {s t : Rule} → Breaks s ≡ Breaks t → s ≡ t
@@ -189,7 +188,7 @@ pub front_moves : {s : Switches} {bytes : List ℕ} {n : ℕ} {effect : Effect} 
 front_moves {bytes = bytes} {n = n} f some_item =
     let g = found f some_item in
     let le = front_within f in
-    let some : length (take n bytes) ≢ 0 = λ e. not_empty (take n bytes) (drop n bytes) g.item g.stands_there (nil_of_length (take n bytes) e) in
+    let some : length (take n bytes) ≢ 0 = λ e. not_empty (take n bytes) (drop n bytes) g.item g.stands_there (nil_from_length (take n bytes) e) in
     omega (arith, le, some, length-take n bytes, length-drop n bytes)
 
 module _ (file mark : ℕ) (text rest : List ℕ) (first : ℕ) (place : Place) (s : Switches) (tokens : List Token) (h : ScanSoFar file mark text rest first place s tokens) where

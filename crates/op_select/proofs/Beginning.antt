@@ -3,6 +3,7 @@ use Rattle.std.proofs.Common.{◌≡◌, ℕ, zero, suc, ◌+◌, ◌-◌, ◌<�
 use Rattle.std.proofs.lemmas.Bool.{cases_lt}
 use Rattle.std.proofs.lemmas.Bool.Decides.{nat_tests}
 use Rattle.std.proofs.lemmas.List.{length-replicate}
+use Rattle.std.specs.Cmp.{first_so}
 use Rattle.op_simulation.specs.System.{run}
 use Rattle.op_simulation.proofs.Composition.{joins_equal}
 use Rattle.op_simulation.proofs.Points.{agreement}
@@ -25,7 +26,6 @@ use Rattle.op_select.proofs.Following.{selected_follows}
 use Rattle.op_select.proofs.FrameLemmas.{sizes}
 use Rattle.op_select.proofs.HeadLemmas.{Comes}
 use Rattle.op_select.proofs.TransferLemmas.{block_stands}
-use Rattle.op_select.proofs.ValueSteps.{both_left}
 
 record Entry (routines : List Routine) (r : ℕ) : Type 0 where
   exists : r < length routines
@@ -42,7 +42,7 @@ entry_of (x ∷ xs) (suc r) is =
 module _ (w : Setting) (law : IsSetting w) where
   entry_is : Entry w.low.routines w.low.entry.0
   unfolding is_valid
-  entry_is = entry_of w.low.routines w.low.entry.0 (both_left (takes (slice_get w.low.routines w.low.entry.0) 0) _ law.valid)
+  entry_is = entry_of w.low.routines w.low.entry.0 (first_so (takes (slice_get w.low.routines w.low.entry.0) 0) _ law.valid)
 
   start_stays : (memory : ℕ → ℕ) (input : List ℕ) (b : State) → Starts w memory input b → (h : Heads w b w.low.entry.0 w.top w.bottom (get_or b.registers 1 0) (λ v. 0)) → Stays w (start_in w memory input) (stored b h.registers (w.placing.block w.low.entry.0 0) h.memory)
   unfolding start Below frame_of

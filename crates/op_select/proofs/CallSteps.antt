@@ -1,9 +1,10 @@
 -- Calls: the arguments are passed, the routine is entered, and its head makes the activation that low code begins.
 use Rattle.std.proofs.Common.{◌≡◌, ℕ, pos, zero, suc, ◌+◌, ◌-◌, ◌*◌, ◌/◌, ◌%◌, ◌^◌, ◌-ℤ◌, ◌<◌, ◌≤◌, Bool, true, false, cond, ◌&&◌, nat_eq, nat_le, nat_lt, Option, Some, List, [], ◌∷◌, ◌++◌, length, get_or, set, slice_get, refl, ap, ap₂, sym, subst, ◌∙◌, append_assoc, arith}
 use Rattle.std.proofs.lemmas.Int.{ints}
-use Rattle.std.proofs.lemmas.Bool.{ltb-true, leb-true}
+use Rattle.std.proofs.lemmas.Bool.{ltb-true, leb-true, eqb-true, cond-true}
 use Rattle.std.proofs.lemmas.Bool.Decides.{nat_tests}
 use Rattle.std.proofs.lemmas.List.{length-map, get_or-set_same, get_or-set_other, length-set}
+use Rattle.std.specs.Cmp.{first_so, second_so}
 use Rattle.std.specs.Int.{bytes_low_first}
 use Rattle.std.specs.List.{list_all}
 use Rattle.op_low.specs.Machine.{act as low_act, call, can_enter}
@@ -35,9 +36,8 @@ use Rattle.op_select.proofs.FrameLemmas.{below_bottom, below_same, below_top, br
 use Rattle.op_select.proofs.ReturnSteps.{down-bounded}
 use Rattle.op_select.proofs.SequenceLemmas.{stores}
 use Rattle.op_select.proofs.TransferLemmas.{Linked, links, head_stands}
-use Rattle.op_select.proofs.ValueSteps.{Steps, both_left, both_right, inside}
+use Rattle.op_select.proofs.ValueSteps.{Steps, inside}
 use Rattle.op_select.proofs.Walks.{Walk, walk_none, walk_join, walk_weaken, walk_step, advanced_pc, placed, sound_placed, plain_first, split, nothing_more}
-use Rattle.op_select.proofs.WordLemmas.{cond_true}
 use Rattle.op_select.proofs.ArrivalLemmas.{began, Arrives, arrives}
 
 -- the arguments from number k on are where the routine looks for them
@@ -48,9 +48,6 @@ pub record Passes (w : Setting) (m : LowState) (b : State) (k : ℕ) (vs : List 
   pub in_registers : (i : ℕ) → i < length vs → k + i < 8 → get_or after.registers (10 + (k + i)) 0 ≡ get_or vs i 0
   pub in_memory : (i : ℕ) → i < length vs → 8 ≤ k + i → word_at after.memory (m.limit + m.room - (8 + 4 * (k + i))) ≡ get_or vs i 0
   pub walk : Walk b after 0 (6 * length vs) []
-
-equal_is : (a b : ℕ) → nat_eq a b ≡ true → a ≡ b
-equal_is a b test = grind (arith, nat_tests)
 
 -- a routine's head with the address behind the call in ra, where other items stand
 pub record Entered (w : Setting) (c : State) (r target : ℕ) (items : List Item) (end most : ℕ) : Type 0 where
@@ -168,8 +165,8 @@ module _ (w : Setting) (law : IsSetting w) where
       let g = w.placing in
       let routine = routine_in w m.top.routine in
       let parts = split g m.top.routine b.pc (passed routine (k + 1) rs) (passed_one routine k r) at stands in
-      let rest = passes m b (k + 1) rs parts.middle stays (both_right (has routine r) _ all) (omega arith) parts.first in
-      let one = passes_one m rest.after k r at (nat_lt k 8) refl rest.stays (inside w law m r (both_left (has routine r) _ all)) (omega arith) (subst (λ n. Stands g m.top.routine n (passed_one routine k r) at) (sym rest.there) parts.second) in
+      let rest = passes m b (k + 1) rs parts.middle stays (second_so (has routine r) _ all) (omega arith) parts.first in
+      let one = passes_one m rest.after k r at (nat_lt k 8) refl rest.stays (inside w law m r (first_so (has routine r) _ all)) (omega arith) (subst (λ n. Stands g m.top.routine n (passed_one routine k r) at) (sym rest.there) parts.second) in
       let long : length (values m rs) ≡ length rs = length-map rs (value m) in
       record {
         after = one.after;
@@ -200,17 +197,17 @@ module _ (w : Setting) (law : IsSetting w) where
 
   values-bounded : (m : LowState) (b : State) (rs : List VirtualRegister) (i : ℕ) → Stays w m b → list_all (has (routine_in w m.top.routine)) rs ≡ true → i < length (values m rs) → get_or (values m rs) i 0 < 2 ^ 32
   values-bounded m b [] i stays all within = absurd (omega arith)
-  values-bounded m b (r ∷ rs) zero stays all within = value-bounded w law m b r stays (inside w law m r (both_left (has (routine_in w m.top.routine) r) _ all))
-  values-bounded m b (r ∷ rs) (suc i) stays all within = values-bounded m b rs i stays (both_right (has (routine_in w m.top.routine) r) _ all) (omega arith)
+  values-bounded m b (r ∷ rs) zero stays all within = value-bounded w law m b r stays (inside w law m r (first_so (has (routine_in w m.top.routine) r) _ all))
+  values-bounded m b (r ∷ rs) (suc i) stays all within = values-bounded m b rs i stays (second_so (has (routine_in w m.top.routine) r) _ all) (omega arith)
 
   -- the routine is entered, with the address behind the call in ra
   call_from : (m : LowState) (b : State) (r back most at end : ℕ) (rs : List VirtualRegister) (to : VirtualRegister) (landing : Option BlockId) → (p : Passes w m b 0 (values m rs) at) → (l : Linked p.after (w.placing.head r) back most) → Stays w m b → list_all (has (routine_in w m.top.routine)) rs ≡ true → Stands w.placing m.top.routine back (answered (routine_in w m.top.routine) to landing ++ code_items (routine_in w m.top.routine) m.top.now) end → to.0 < (routine_in w m.top.routine).registers → can_enter w.low (placement_of w) r (length rs) m ≡ true → Steps w (began w r (values m rs) to landing m) b (6 * length rs + most + (12 + 3 * (routine_in w r).registers + locals_in w r)) []
   call_from m b r back most at end rs to landing p l stays all stands to_in enters =
-      let first : (nat_lt r (length w.low.routines) && nat_eq (length rs) (routine_in w r).parameters) ≡ true = both_left _ (nat_le (space w.low (placement_of w) r) m.room) enters in
-      let exists = ltb-true r (length w.low.routines) (both_left _ (nat_eq (length rs) (routine_in w r).parameters) first) in
-      let counts : nat_eq (length rs) (routine_in w r).parameters ≡ true = both_right (nat_lt r (length w.low.routines)) _ first in
-      let count : length rs ≡ (routine_in w r).parameters = equal_is (length rs) (routine_in w r).parameters counts in
-      let room = leb-true (space w.low (placement_of w) r) m.room (both_right (nat_lt r (length w.low.routines) && nat_eq (length rs) (routine_in w r).parameters) _ enters) in
+      let first : (nat_lt r (length w.low.routines) && nat_eq (length rs) (routine_in w r).parameters) ≡ true = first_so _ (nat_le (space w.low (placement_of w) r) m.room) enters in
+      let exists = ltb-true r (length w.low.routines) (first_so _ (nat_eq (length rs) (routine_in w r).parameters) first) in
+      let counts : nat_eq (length rs) (routine_in w r).parameters ≡ true = second_so (nat_lt r (length w.low.routines)) _ first in
+      let count : length rs ≡ (routine_in w r).parameters = eqb-true (length rs) (routine_in w r).parameters counts in
+      let room = leb-true (space w.low (placement_of w) r) m.room (second_so (nat_lt r (length w.low.routines) && nat_eq (length rs) (routine_in w r).parameters) _ enters) in
       let long : length (values m rs) ≡ length rs = length-map rs (value m) in
       let d = placed p.after l.registers (w.placing.head r) in
       let stays_d = stays_placed w law m p.after l.registers (w.placing.head r) p.stays l.size (l.others 2 (omega arith)) (l.others 8 (omega arith)) (λ k. l.others (18 + k) (omega arith)) in
@@ -239,9 +236,9 @@ module _ (w : Setting) (law : IsSetting w) where
   arguments_fit : (m : LowState) (r n : ℕ) → can_enter w.low (placement_of w) r n m ≡ true → 4 * (0 + n) + 4 ≤ m.room
   unfolding frame_of
   arguments_fit m r n enters =
-      let first : (nat_lt r (length w.low.routines) && nat_eq n (routine_in w r).parameters) ≡ true = both_left _ (nat_le (space w.low (placement_of w) r) m.room) enters in
-      let count : n ≡ (routine_in w r).parameters = equal_is n (routine_in w r).parameters (both_right (nat_lt r (length w.low.routines)) _ first) in
-      let room : space w.low (placement_of w) r ≤ m.room = leb-true (space w.low (placement_of w) r) m.room (both_right (nat_lt r (length w.low.routines) && nat_eq n (routine_in w r).parameters) _ enters) in
+      let first : (nat_lt r (length w.low.routines) && nat_eq n (routine_in w r).parameters) ≡ true = first_so _ (nat_le (space w.low (placement_of w) r) m.room) enters in
+      let count : n ≡ (routine_in w r).parameters = eqb-true n (routine_in w r).parameters (second_so (nat_lt r (length w.low.routines)) _ first) in
+      let room : space w.low (placement_of w) r ≤ m.room = leb-true (space w.low (placement_of w) r) m.room (second_so (nat_lt r (length w.low.routines) && nat_eq n (routine_in w r).parameters) _ enters) in
       let size = sizes w.low r law.valid in
       let inside_ = size.parameters in
       omega arith
@@ -260,15 +257,15 @@ module _ (w : Setting) (law : IsSetting w) where
       let behind_ = CallItem id operands.landing ∷ answered routine operands.to operands.landing in
       let regrouped = subst (λ items. Stands w.placing r b.pc items end) (append_assoc (passed routine 0 args) behind_ (code_items routine m.top.now)) stands in
       let parts = split w.placing r b.pc (passed routine 0 args) _ end regrouped in
-      let fit = both_right _ _ valid in
-      let named : (list_all (has routine) args && has routine operands.to) ≡ true = both_left _ (has_landing routine operands.landing) fit in
-      let all = both_left (list_all (has routine) args) _ named in
-      let to_in = inside w law m operands.to (both_right (list_all (has routine) args) _ named) in
+      let fit = second_so _ _ valid in
+      let named : (list_all (has routine) args && has routine operands.to) ≡ true = first_so _ (has_landing routine operands.landing) fit in
+      let all = first_so (list_all (has routine) args) _ named in
+      let to_in = inside w law m operands.to (second_so (list_all (has routine) args) _ named) in
       let p = passes m b 0 args parts.middle stays all (arguments_fit m id.0 (length args) enters) parts.first in
       let there = subst (λ n. Stands w.placing r n (CallItem id operands.landing ∷ (answered routine operands.to operands.landing ++ code_items routine m.top.now)) end) (sym p.there) parts.second in
       let e = linked_first m p.after id operands.landing _ end p.stays.sound there in
       let steps = call_from m b id.0 e.back 2 parts.middle end args operands.to operands.landing p e.linked stays all e.rest to_in enters in
-      subst (λ s. Steps w s b (6 * length args + 2 + (12 + 3 * (routine_in w id.0).registers + locals_in w id.0)) []) (sym (cond_true (can_enter w.low (placement_of w) id.0 (length args) m) (began w id.0 (values m args) operands.to operands.landing m) _ enters)) steps
+      subst (λ s. Steps w s b (6 * length args + 2 + (12 + 3 * (routine_in w id.0).registers + locals_in w id.0)) []) (sym (cond-true (can_enter w.low (placement_of w) id.0 (length args) m) (began w id.0 (values m args) operands.to operands.landing m) _ enters)) steps
 
   -- ---- calls of an address
 
@@ -336,14 +333,14 @@ module _ (w : Setting) (law : IsSetting w) where
       let regrouped = subst (λ items. Stands w.placing me b.pc items end) (append_assoc front (CallAtItem operands.landing ∷ answered routine operands.to operands.landing) (code_items routine m.top.now)) stands in
       let parts = split w.placing me b.pc front (CallAtItem operands.landing ∷ items) end regrouped in
       let two = split w.placing me b.pc (passed routine 0 args) (fetch routine 1 address) parts.middle parts.first in
-      let fit = both_right (has routine address) _ valid in
-      let named : (list_all (has routine) args && has routine operands.to) ≡ true = both_left _ (has_landing routine operands.landing) fit in
-      let all = both_left (list_all (has routine) args) _ named in
-      let to_in = inside w law m operands.to (both_right (list_all (has routine) args) _ named) in
-      let address_in = inside w law m address (both_left (has routine address) _ valid) in
-      let exists = ltb-true r (length w.low.routines) (both_left _ (nat_eq (length args) (routine_in w r).parameters) (both_left _ (nat_le (space w.low (placement_of w) r) m.room) enters)) in
+      let fit = second_so (has routine address) _ valid in
+      let named : (list_all (has routine) args && has routine operands.to) ≡ true = first_so _ (has_landing routine operands.landing) fit in
+      let all = first_so (list_all (has routine) args) _ named in
+      let to_in = inside w law m operands.to (second_so (list_all (has routine) args) _ named) in
+      let address_in = inside w law m address (first_so (has routine address) _ valid) in
+      let exists = ltb-true r (length w.low.routines) (first_so _ (nat_eq (length args) (routine_in w r).parameters) (first_so _ (nat_le (space w.low (placement_of w) r) m.room) enters)) in
       let p = passes m b 0 args two.middle stays all (arguments_fit m r (length args) enters) two.first in
       let there = subst (λ n. Stands w.placing me n (fetch routine 1 address) parts.middle) (sym p.there) two.second in
       let e = linked_at m p.after address r parts.middle operands.landing items end p.stays address_in exists found there parts.second in
       let steps = call_from m b r e.back 4 two.middle end args operands.to operands.landing p e.linked stays all e.rest to_in enters in
-      subst (λ s. Steps w s b (6 * length args + 4 + (12 + 3 * (routine_in w r).registers + locals_in w r)) []) (sym (cond_true (can_enter w.low (placement_of w) r (length args) m) (began w r (values m args) operands.to operands.landing m) _ enters)) steps
+      subst (λ s. Steps w s b (6 * length args + 4 + (12 + 3 * (routine_in w r).registers + locals_in w r)) []) (sym (cond-true (can_enter w.low (placement_of w) r (length args) m) (began w r (values m args) operands.to operands.landing m) _ enters)) steps

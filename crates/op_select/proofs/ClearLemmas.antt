@@ -1,7 +1,7 @@
 -- The loop of one store that puts zeros in memory.
 use Rattle.std.proofs.Common.{◌≡◌, ◌≢◌, ℕ, pos, zero, suc, ◌+◌, ◌-◌, ◌*◌, ◌%◌, ◌^◌, ◌-ℤ◌, ◌<◌, ◌≤◌, ◌⊎◌, inl, inr, Bool, true, false, not, cond, nat_eq, List, [], length, get_or, refl, ap, ap₂, sym, subst, ◌∙◌, arith}
 use Rattle.std.proofs.lemmas.Int.{ints}
-use Rattle.std.proofs.lemmas.Bool.{cases_lt}
+use Rattle.std.proofs.lemmas.Bool.{cases_lt, cond-true}
 use Rattle.std.proofs.lemmas.Bool.Decides.{nat_tests}
 use Rattle.std.specs.Int.{bytes_low_first}
 use Rattle.op_rv.proofs.Memory.{can_access_word, four-bounded, with_bytes-outside, with_bytes-within, zero_bytes}
@@ -20,7 +20,7 @@ use Rattle.op_select.specs.RiscvMachine.{instr_shows}
 use Rattle.op_select.proofs.FrameLemmas.{sound_stored}
 use Rattle.op_select.proofs.TransferLemmas.{branches}
 use Rattle.op_select.proofs.Walks.{Walk, walk_join, walk_weaken, walk_step, advanced_pc, placed, sound_placed, becomes, register_is, plain_first, nothing_more}
-use Rattle.op_select.proofs.WordLemmas.{cond_true, no_distance}
+use Rattle.op_select.proofs.WordLemmas.{no_distance}
 
 -- a state with other memory
 abbrev pub stored : State → List ℕ → ℕ → (ℕ → ℕ) → State
@@ -65,7 +65,7 @@ module _ (w : Setting) (law : IsSetting w) where
       let from_b : register b from ≡ a = register_is b from from_some ∙ from_is in
       let address : offset_from (register b from) (pos 0) ≡ a = ap (λ n. offset_from n (pos 0)) from_b ∙ no_distance a (omega arith) in
       let may : can_access b.rights.writable a 4 ≡ true = can_access_word b.rights.writable a whole (λ x lower upper. subst (λ rights. rights.writable x ≡ true) (sym sound.rights) (writable x lower upper)) in
-      let done = ap (λ n. store Sw 0 n b) address ∙ cond_true (can_access b.rights.writable a 4) (advanced (record b { memory = memory })) (faulted StoreFault b) may ∙ ap (λ n. stored b b.registers n memory) (advanced_pc w law b (Store Sw from 0 (pos 0)) first.0) in
+      let done = ap (λ n. store Sw 0 n b) address ∙ cond-true (can_access b.rights.writable a 4) (advanced (record b { memory = memory })) (faulted StoreFault b) may ∙ ap (λ n. stored b b.registers n memory) (advanced_pc w law b (Store Sw from 0 (pos 0)) first.0) in
       let c = stored b b.registers (b.pc + 4) memory in
       let one = walk_step w law b c (Store Sw from 0 (pos 0)) [] sound first.0 refl done in
       let sound_c = sound_stored w law b b.registers (b.pc + 4) a (bytes_low_first 0 4 0) sound sound.size (four-bounded 0) writable in

@@ -1,17 +1,20 @@
 -- Instructions that go elsewhere, and those that write memory or call the outside.
 use Rattle.std.proofs.Common.{◌≡◌, ◌≢◌, ℕ, ℤ, zero, suc, ◌+◌, ◌-◌, ◌%◌, ◌^◌, ◌<◌, ◌≤◌, Bool, true, false, cond, ◌&&◌, if◌then◌else◌, nat_eq, nat_lt, nat_le, List, [], ◌∷◌, ◌++◌, length, get_or, refl, ap, ap₂, sym, subst, ◌∙◌, append_assoc, arith}
+use Rattle.std.proofs.lemmas.Bool.{cond-true}
+use Rattle.std.specs.Cmp.{first_so, second_so}
 use Rattle.std.specs.Int.{bytes_low_first, byte_at}
 use Rattle.op_low.specs.Machine.{Event, act as low_act, store as low_store}
 use Rattle.op_low.specs.State.{State as LowState, value, usable, jump}
 use Rattle.op_low.specs.Valid.{is_valid_instruction, has, imm_fits, branch_fits}
 use Rattle.op_low.specs.declared.ids.VirtualRegister.{VirtualRegister}
 use Rattle.op_low.specs.declared.instruction.Instruction.TheVariants.{Branch, Jump, Store, Exit}
+use Rattle.op_rv.proofs.Environment.{environment_call-exit}
 use Rattle.op_rv.proofs.Memory.{with_bytes-outside}
-use Rattle.op_rv.specs.Environment.{environment_call, read_call, write_call, exit_call}
+use Rattle.op_rv.specs.Environment.{exit_call}
 use Rattle.op_rv.specs.Operation.{branch_taken}
 use Rattle.op_rv.specs.State.{State, Ended, register, faulted, with_bytes}
 use Rattle.op_rv.specs.Step.{act, store, can_access, offset_from, store_size_of}
-use Rattle.op_rv.specs.declared.fault.FaultKind.TheVariants.{Store as StoreFault, Call as CallFault}
+use Rattle.op_rv.specs.declared.fault.FaultKind.TheVariants.{Store as StoreFault}
 use Rattle.op_rv.specs.declared.instruction.BranchOp.{BranchOp}
 use Rattle.op_rv.specs.declared.instruction.StoreOp.{StoreOp}
 use Rattle.op_rv.specs.declared.instruction.StoreOp.TheVariants.{Sb, Sh, Sw}
@@ -28,9 +31,8 @@ use Rattle.op_select.specs.Sequences.{small}
 use Rattle.op_select.proofs.FrameLemmas.{stays_placed, sound_stored, below_same, fetches, holds_same}
 use Rattle.op_select.proofs.SequenceLemmas.{smalls}
 use Rattle.op_select.proofs.TransferLemmas.{jumps, chooses, block_stands}
-use Rattle.op_select.proofs.ValueSteps.{Steps, both_left, both_right, inside, two_brought, usable_all, access_of}
+use Rattle.op_select.proofs.ValueSteps.{Steps, inside, two_brought, usable_all, access_of}
 use Rattle.op_select.proofs.Walks.{Walk, walk_join, walk_weaken, walk_step, advanced_pc, placed, sound_placed, register_is, plain_first, split, nothing_more}
-use Rattle.op_select.proofs.WordLemmas.{cond_true}
 
 -- the machine has ended
 pub record ExitSteps (m : LowState) (b : State) (most : ℕ) (status : ℕ) : Type 0 where
@@ -138,8 +140,8 @@ module _ (w : Setting) (law : IsSetting w) where
       let brought_ = bring routine 10 left ++ bring routine 11 right in
       let regrouped = subst (λ items. Stands w.placing m.top.routine b.pc items end) (append_assoc brought_ (BranchItem op p q block ∷ []) (code_items routine m.top.now)) stands in
       let parts = split w.placing m.top.routine b.pc brought_ _ end regrouped in
-      let both : (has routine left && has routine right) ≡ true = both_left _ _ valid in
-      let two = two_brought w law m b left right parts.middle stays (inside w law m left (both_left _ _ both)) (inside w law m right (both_right (has routine left) _ both)) parts.first in
+      let both : (has routine left && has routine right) ≡ true = first_so _ _ valid in
+      let two = two_brought w law m b left right parts.middle stays (inside w law m left (first_so _ _ both)) (inside w law m right (second_so (has routine left) _ both)) parts.first in
       let c = placed b two.registers parts.middle in
       let stays_c = stays_placed w law m b two.registers parts.middle stays two.size (two.others 2 (omega arith) (omega arith)) (two.others 8 (omega arith) (omega arith)) (λ k. two.others (18 + k) (omega arith) (omega arith)) in
       let tells : branch_taken op (register c p) (register c q) ≡ branch_taken op (value m left) (value m right) = ap₂ (branch_taken op) (register_is c p two.first_some ∙ two.first_is) (register_is c q two.second_some ∙ two.second_is) in
@@ -147,10 +149,6 @@ module _ (w : Setting) (law : IsSetting w) where
       steps_join (cond (branch_taken op (value m left) (value m right)) (jump w.low block m) m) b c 0 6 3 [] [] two.walk choice
 
   -- ---- exit
-
-  environment_exit : (s : State) → register s 17 ≡ 93 → environment_call s ≡ exit_call s
-  unfolding environment_call
-  environment_exit s is = ap (λ n. if nat_eq n 63 then read_call s else (if nat_eq n 64 then write_call s else (if nat_eq n 93 then exit_call s else faulted CallFault s))) is
 
   shows_exit : (s : State) → register s 17 ≡ 93 → call_event s ≡ []
   unfolding call_event
@@ -171,7 +169,7 @@ module _ (w : Setting) (law : IsSetting w) where
       let sound_d = sound_placed w law b number.registers parts.middle stays.sound number.size in
       let first = plain_first w.placing m.top.routine parts.middle Ecall _ whole.middle parts.second in
       let status_is : register d 10 ≡ value m status = number.others 10 (omega arith) (omega arith) ∙ one.value_is in
-      let last = walk_step w law d (exit_call d) Ecall [] sound_d first.0 (shows_exit d number.value_is) (environment_exit d number.value_is) in
+      let last = walk_step w law d (exit_call d) Ecall [] sound_d first.0 (shows_exit d number.value_is) (environment_call-exit d number.value_is) in
       let walk = walk_join b d (exit_call d) 2 4 1 1 [] [] (walk_join b c d 1 3 1 1 [] [] one.walk number.walk) last in
       record {
         after = exit_call d;
@@ -234,16 +232,16 @@ module _ (w : Setting) (law : IsSetting w) where
       let bytes = bytes_low_first 0 n (value m v) in
       let whole = split w.placing m.top.routine b.pc (items_of routine (Store op v base offset)) _ end stands in
       let parts = split w.placing m.top.routine b.pc (bring routine 10 base ++ bring routine 11 v) _ whole.middle whole.first in
-      let both : (has routine v && has routine base) ≡ true = both_left _ _ valid in
-      let two = two_brought w law m b base v parts.middle stays (inside w law m base (both_right (has routine v) _ both)) (inside w law m v (both_left _ _ both)) parts.first in
+      let both : (has routine v && has routine base) ≡ true = first_so _ _ valid in
+      let two = two_brought w law m b base v parts.middle stays (inside w law m base (second_so (has routine v) _ both)) (inside w law m v (first_so _ _ both)) parts.first in
       let c = placed b two.registers parts.middle in
       let stays_c = stays_placed w law m b two.registers parts.middle stays two.size (two.others 2 (omega arith) (omega arith)) (two.others 8 (omega arith) (omega arith)) (λ k. two.others (18 + k) (omega arith) (omega arith)) in
       let first = plain_first w.placing m.top.routine parts.middle i _ whole.middle parts.second in
       let there = nothing_more w.placing m.top.routine (parts.middle + 4) whole.middle first.1 in
-      let may : (x : ℕ) → a ≤ x → x < a + length bytes → (w.rights.writable x ≡ true) × (x < m.limit) = λ x from before. usable_all w.rights.writable m a n (both_right (nat_eq (a % n) 0) _ can) x from (subst (λ k. x < a + k) (length_of_store op (value m v)) before) in
+      let may : (x : ℕ) → a ≤ x → x < a + length bytes → (w.rights.writable x ≡ true) × (x < m.limit) = λ x from before. usable_all w.rights.writable m a n (second_so (nat_eq (a % n) 0) _ can) x from (subst (λ k. x < a + k) (length_of_store op (value m v)) before) in
       let can_c : can_access c.rights.writable a n ≡ true = subst (λ rights. can_access rights.writable a n ≡ true) (sym stays_c.sound.rights) (access_of w.rights.writable m a n can) in
       let after : ℕ → ℕ → ℕ → State = λ x y at. record c { memory = with_bytes c.memory (offset_from y offset) (bytes_low_first 0 n x); pc = at } in
-      let done = ap (λ y. store op (register c q) (offset_from y offset) c) (register_is c p two.first_some ∙ two.first_is) ∙ ap (λ x. store op x a c) (register_is c q two.second_some ∙ two.second_is) ∙ cond_true (can_access c.rights.writable a n) (after (value m v) (value m base) ((c.pc + 4) % 2 ^ 32)) (faulted StoreFault c) can_c ∙ ap (after (value m v) (value m base)) (advanced_pc w law c i first.0 ∙ there) in
+      let done = ap (λ y. store op (register c q) (offset_from y offset) c) (register_is c p two.first_some ∙ two.first_is) ∙ ap (λ x. store op x a c) (register_is c q two.second_some ∙ two.second_is) ∙ cond-true (can_access c.rights.writable a n) (after (value m v) (value m base) ((c.pc + 4) % 2 ^ 32)) (faulted StoreFault c) can_c ∙ ap (after (value m v) (value m base)) (advanced_pc w law c i first.0 ∙ there) in
       let one = walk_step w law c (after (value m v) (value m base) whole.middle) i [] stays_c.sound first.0 refl done in
       let stored = stays_written m b two.registers whole.middle a bytes stays two.size (two.others 2 (omega arith) (omega arith)) (two.others 8 (omega arith) (omega arith)) (λ k. two.others (18 + k) (omega arith) (omega arith)) (bytes-bounded 0 n (value m v)) may in
       let steps : Steps w (record m { memory = with_bytes m.memory a bytes }) b 7 [] = record {
@@ -251,4 +249,4 @@ module _ (w : Setting) (law : IsSetting w) where
         goes = record { stays = stored; ready = record { end = end; stands = whole.second } };
         walk = walk_weaken b (after (value m v) (value m base) whole.middle) 1 7 1 7 [] (omega arith) (omega arith) (walk_join b c (after (value m v) (value m base) whole.middle) 0 6 1 1 [] [] two.walk one);
       } in
-      subst (λ s. Steps w s b 7 []) (sym (cond_true (can_access (usable w.rights.writable m) a n) (record m { memory = with_bytes m.memory a bytes }) _ can)) steps
+      subst (λ s. Steps w s b 7 []) (sym (cond-true (can_access (usable w.rights.writable m) a n) (record m { memory = with_bytes m.memory a bytes }) _ can)) steps

@@ -1,7 +1,9 @@
 -- The example stands where it is placed.
 use Rattle.std.proofs.Common.{◌≡◌, ℕ, zero, suc, ◌+◌, ◌-◌, ◌/◌, ◌%◌, ◌^◌, ◌<◌, ◌≤◌, Bool, true, false, cond, ◌&&◌, nat_eq, nat_le, Option, Some, None, List, [], ◌∷◌, length, slice_get, refl, subst, arith}
 use Rattle.std.proofs.lemmas.Bool.Decides.{nat_tests}
-use Rattle.std.proofs.lemmas.Bool.{leb-true}
+use Rattle.std.proofs.lemmas.Bool.{eqb-true, leb-true}
+use Rattle.std.proofs.lemmas.Option.{slice_get_within}
+use Rattle.std.specs.Cmp.{first_so, second_so}
 use Rattle.op_low.specs.Valid.{is_valid, is_valid_routine, is_valid_block, is_valid_instruction, is_sized, const_fits, leaves}
 use Rattle.op_rv.specs.declared.instruction.Instr.{Instr}
 use Rattle.op_rv.specs.declared.objects.Item.{Item}
@@ -51,17 +53,6 @@ from_head : Stands example_setting.placing 0 65536 (object_routine_of example_ro
 unfolding object_routine_of
 from_head = head_there
 
-left_of : (a b : Bool) → (a && b) ≡ true → a ≡ true
-left_of true b is = refl
-left_of false b is = absurd cc
-
-right_of : (a b : Bool) → (a && b) ≡ true → b ≡ true
-right_of true b is = is
-right_of false b is = absurd cc
-
-equal_is : (a b : ℕ) → nat_eq a b ≡ true → a ≡ b
-equal_is a b test = grind (arith, nat_tests)
-
 blocks_there : (b : ℕ) (block : ObjectBlock) → slice_get (object_routine_of example_routine).blocks b ≡ Some block → StandsFrom example_setting.placing 0 (example_setting.placing.block 0 b) block.items
 unfolding object_routine_of object_block_of
 blocks_there zero block is = subst (λ o. FromBlock 65552 o) is (record { end = 65568; stands = block_there })
@@ -75,13 +66,6 @@ routines_there (suc r) routine is = absurd cc
 
 -- ---- where code stands
 
-within : {A : Type 0} (xs : List A) (k : ℕ) (x : A) → slice_get xs k ≡ Some x → k < length xs
-within [] k x is = absurd cc
-within (y ∷ ys) zero x is = omega arith
-within (y ∷ ys) (suc k) x is =
-    let more = within ys k x is in
-    omega arith
-
 code_length : length example_code ≡ 13
 unfolding example_code frame_of home load_home store_home fetch keep operand register_of bring brought put put_away taken_one taken given_back cleared_registers cleared_locals head_of lowered epilogue items_of code_items upper_of lower_of is_near below constant reach reached sum word_load word_store
 code_length = refl
@@ -93,11 +77,11 @@ record Place (a : ℕ) : Type 0 where
 
 place_by : (a : ℕ) (i : Instr) (test : Bool) → (nat_le 65536 a && nat_eq (a % 4) 0) ≡ test → cond test (slice_get example_code ((a - 65536) / 4)) None ≡ Some i → Place a
 place_by a i true test is =
-    let index = within example_code ((a - 65536) / 4) i is in
+    let index = slice_get_within example_code ((a - 65536) / 4) i is in
     let long = code_length in
-    let from : 65536 ≤ a = leb-true 65536 a (left_of _ _ test) in
-    let fourth : nat_eq (a % 4) 0 ≡ true = right_of (nat_le 65536 a) _ test in
-    record { from = from; before = omega arith; whole = equal_is (a % 4) 0 fourth }
+    let from : 65536 ≤ a = leb-true 65536 a (first_so _ _ test) in
+    let fourth : nat_eq (a % 4) 0 ≡ true = second_so (nat_le 65536 a) _ test in
+    record { from = from; before = omega arith; whole = eqb-true (a % 4) 0 fourth }
 place_by a i false test is = absurd cc
 
 place_of_code : (a : ℕ) (i : Instr) → example_setting.placing.code a ≡ Some i → Place a
@@ -110,7 +94,7 @@ outside : (from past x : ℕ) → x < from → is_between from past x ≡ false
 outside from past x lower = grind (arith, nat_tests)
 
 found_by : (a r : ℕ) (test : Bool) → nat_eq a 65536 ≡ test → cond test (Some 0) None ≡ Some r → a ≡ 65536
-found_by a r true test is = equal_is a 65536 test
+found_by a r true test is = eqb-true a 65536 test
 found_by a r false test is = absurd cc
 
 few_blocks : (r : ℕ) → length (routine_in example_setting r).blocks < 2 ^ 32 - 1

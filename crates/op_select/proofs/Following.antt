@@ -1,5 +1,7 @@
 -- Selected code goes along with low code, whatever the instruction.
 use Rattle.std.proofs.Common.{◌≡◌, ℕ, ℤ, suc, ◌+◌, ◌-◌, ◌*◌, ◌≤◌, Bool, true, false, if◌then◌else◌, Option, Some, None, List, [], ◌∷◌, ◌++◌, length, take, refl, ap, sym, subst, ◌∙◌, arith}
+use Rattle.std.proofs.lemmas.Bool.{cond-true}
+use Rattle.std.specs.Cmp.{first_so}
 use Rattle.std.specs.List.{list_all}
 use Rattle.op_simulation.specs.System.{run}
 use Rattle.op_simulation.specs.Matching.{Stretch, Follows}
@@ -34,9 +36,8 @@ use Rattle.op_select.proofs.CallSteps.{call_steps, call_at_steps}
 use Rattle.op_select.proofs.ControlSteps.{jump_steps, branch_steps, store_steps, exit_steps}
 use Rattle.op_select.proofs.OutsideSteps.{read_steps, write_steps}
 use Rattle.op_select.proofs.ReturnSteps.{stays_now, return_steps, raise_steps}
-use Rattle.op_select.proofs.ValueSteps.{Steps, both_left, const_steps, move_steps, local_steps, alu_steps, shift_steps, imm_steps, address_steps, load_steps}
+use Rattle.op_select.proofs.ValueSteps.{Steps, const_steps, move_steps, local_steps, alu_steps, shift_steps, imm_steps, address_steps, load_steps}
 use Rattle.op_select.proofs.Walks.{Walk, walk_weaken}
-use Rattle.op_select.proofs.WordLemmas.{cond_true}
 
 -- what becomes of a step
 pub record Outcome (w : Setting) (m : LowState) (b : State) (events : List Event) (price : ℕ) : Type 0 where
@@ -145,7 +146,7 @@ module _ (w : Setting) (law : IsSetting w) where
       let bytes = bytes_from m.memory (value m buffer) (value m size) in
       let can = is_taken test (written output bytes m) (bad m) good refl in
       let ran = running_if test (written output bytes m) (bad m) can (written_runs output bytes m running) in
-      let shown : (if test then Written output bytes ∷ [] else []) ≡ Written output bytes ∷ [] = cond_true test (Written output bytes ∷ []) [] can in
+      let shown : (if test then Written output bytes ∷ [] else []) ≡ Written output bytes ∷ [] = cond-true test (Written output bytes ∷ []) [] can in
       subst (λ es. Outcome w (act w.low (placement_of w) (Write output buffer size) m) b es 1) (sym shown) (going _ b 9 1 (Written output bytes ∷ []) ran (omega arith) (write_steps w law m b output buffer size end stays valid can stands))
 
   does_read : (m : LowState) (b : State) (to buffer size : VirtualRegister) (end : ℕ) → m.ending ≡ Running → ((act w.low (placement_of w) (Read to buffer size) m).ending ≡ Bad → ⊥) → is_valid_instruction w.low (routine_in w m.top.routine) (Read to buffer size) ≡ true → Stays w m b → Stands w.placing m.top.routine b.pc (items_of (routine_in w m.top.routine) (Read to buffer size) ++ code_items (routine_in w m.top.routine) m.top.now) end → Outcome w (act w.low (placement_of w) (Read to buffer size) m) b (shown_by (placement_of w) (Read to buffer size) m) 1
@@ -155,7 +156,7 @@ module _ (w : Setting) (law : IsSetting w) where
       let bytes = take (value m size) m.input in
       let can = is_taken test _ (bad m) good refl in
       let ran = running_if test _ (bad m) can running in
-      let shown : (if test then Taken bytes ∷ [] else []) ≡ Taken bytes ∷ [] = cond_true test (Taken bytes ∷ []) [] can in
+      let shown : (if test then Taken bytes ∷ [] else []) ≡ Taken bytes ∷ [] = cond-true test (Taken bytes ∷ []) [] can in
       subst (λ es. Outcome w (act w.low (placement_of w) (Read to buffer size) m) b es 1) (sym shown) (going _ b 12 1 (Taken bytes ∷ []) ran (omega arith) (read_steps w law m b to buffer size end stays valid can stands))
 
   does_exit : (m : LowState) (b : State) (status : VirtualRegister) (end : ℕ) → is_valid_instruction w.low (routine_in w m.top.routine) (Exit status) ≡ true → Stays w m b → Stands w.placing m.top.routine b.pc (items_of (routine_in w m.top.routine) (Exit status) ++ code_items (routine_in w m.top.routine) m.top.now) end → Outcome w (act w.low (placement_of w) (Exit status) m) b [] 1
@@ -240,7 +241,7 @@ module _ (w : Setting) (law : IsSetting w) where
       let costs : cost w.low (placement_of w) m.ending m ≡ cost_by w.low (placement_of w) i m = ap (λ e. cost w.low (placement_of w) e m) running ∙ ap (λ is. cost_next w.low (placement_of w) is m) now in
       let good : (act w.low (placement_of w) i m').ending ≡ Bad → ⊥ = λ is_bad. matches.good 1 (ap (λ s. s.ending) there ∙ is_bad) in
       let all = subst (λ is. list_all (is_valid_instruction w.low (routine_in w m.top.routine)) is ≡ true) now matches.valid.top in
-      let valid = both_left (is_valid_instruction w.low (routine_in w m.top.routine) i) _ all in
+      let valid = first_so (is_valid_instruction w.low (routine_in w m.top.routine) i) _ all in
       let stands = subst (λ is. Stands w.placing m.top.routine b.pc (code_items (routine_in w m.top.routine) is) goes.ready.end) now goes.ready.stands in
       let outcome = does i m' b goes.ready.end running good valid (stays_now w law m b is goes.stays) stands in
       stretch_of m (act w.low (placement_of w) i m') b (shown_by (placement_of w) i m') (cost_by w.low (placement_of w) i m') matches there (shown ∙ same_shown (placement_of w) i m is) (costs ∙ same_cost w.low (placement_of w) i m is) outcome

@@ -1,7 +1,8 @@
 -- Virtual registers in their homes: what fetching and keeping them does, and what stays.
-use Rattle.std.proofs.Common.{◌≡◌, ◌≢◌, ℕ, zero, suc, ◌+◌, ◌-◌, ◌*◌, ◌%◌, ◌^◌, ◌<◌, ◌≤◌, ◌⊎◌, inl, inr, Bool, true, false, cond, ◌&&◌, nat_eq, nat_le, nat_lt, pos, List, [], ◌∷◌, ◌++◌, length, get_or, slice_get, refl, ap, sym, subst, ◌∙◌, arith}
-use Rattle.std.proofs.lemmas.Bool.{cases_lt, ltb-false, ltb-true}
+use Rattle.std.proofs.Common.{◌≡◌, ◌≢◌, ℕ, zero, suc, ◌+◌, ◌-◌, ◌*◌, ◌%◌, ◌^◌, ◌<◌, ◌≤◌, ◌⊎◌, inl, inr, Bool, true, false, cond, nat_eq, nat_le, nat_lt, pos, List, [], ◌∷◌, ◌++◌, length, get_or, slice_get, refl, ap, sym, subst, ◌∙◌, arith}
+use Rattle.std.proofs.lemmas.Bool.{cases_lt, cond-false, cond-true, ltb-false, ltb-true}
 use Rattle.std.proofs.lemmas.Bool.Decides.{nat_tests}
+use Rattle.std.specs.Cmp.{first_so, second_so}
 use Rattle.std.specs.Int.{bytes_low_first}
 use Rattle.std.specs.List.{list_all}
 use Rattle.op_low.specs.State.{Caller, State as LowState, routine_of, routine_or, keep as with_kept, value}
@@ -23,7 +24,6 @@ use Rattle.op_select.specs.Sequences.{word_load, word_store}
 use Rattle.op_select.specs.declared.frame.Home.TheVariants.{Frame, Register}
 use Rattle.op_select.proofs.SequenceLemmas.{loads, moves, stores}
 use Rattle.op_select.proofs.Walks.{Walk, walk_none, walk_join, walk_weaken, placed, sound_placed, Becomes, nothing_more}
-use Rattle.op_select.proofs.WordLemmas.{cond_true, cond_false}
 
 -- ---- sizes
 
@@ -33,24 +33,16 @@ pub record Sizes (routine : Routine) : Type 0 where
   pub locals : routine.locals ≤ most_locals
   pub locals_aligned : routine.locals % 4 ≡ 0
 
-and_left : (a b : Bool) → (a && b) ≡ true → a ≡ true
-and_left true b is = refl
-and_left false b is = absurd cc
-
-and_right : (a b : Bool) → (a && b) ≡ true → b ≡ true
-and_right true b is = is
-and_right false b is = absurd cc
-
 sizes_of : (routine : Routine) → is_sized routine ≡ true → Sizes routine
 unfolding is_sized
 sizes_of routine is =
-    let four = and_left _ _ is in
-    let three = and_left _ _ four in
-    let two = and_left _ _ three in
-    let a : nat_le routine.parameters routine.registers ≡ true = and_left _ _ two in
-    let b : nat_le routine.registers most_registers ≡ true = and_right _ _ two in
-    let c : nat_le routine.locals most_locals ≡ true = and_right _ _ three in
-    let d : nat_eq (routine.locals % 4) 0 ≡ true = and_right _ _ four in
+    let four = first_so _ _ is in
+    let three = first_so _ _ four in
+    let two = first_so _ _ three in
+    let a : nat_le routine.parameters routine.registers ≡ true = first_so _ _ two in
+    let b : nat_le routine.registers most_registers ≡ true = second_so _ _ two in
+    let c : nat_le routine.locals most_locals ≡ true = second_so _ _ three in
+    let d : nat_eq (routine.locals % 4) 0 ≡ true = second_so _ _ four in
     record {
       parameters = grind (arith, nat_tests);
       registers = grind (arith, nat_tests);
@@ -61,12 +53,12 @@ sizes_of routine is =
 sizes_in : (low : Low) (routines : List Routine) (r : ℕ) → list_all (is_valid_routine low) routines ≡ true → Sizes (routine_or (slice_get routines r))
 unfolding is_valid_routine
 sizes_in low [] r all = record { parameters = omega arith; registers = omega arith; locals = omega arith; locals_aligned = refl }
-sizes_in low (x ∷ xs) zero all = sizes_of x (and_left _ _ (and_left _ _ all))
-sizes_in low (x ∷ xs) (suc r) all = sizes_in low xs r (and_right _ _ all)
+sizes_in low (x ∷ xs) zero all = sizes_of x (first_so _ _ (first_so _ _ all))
+sizes_in low (x ∷ xs) (suc r) all = sizes_in low xs r (second_so _ _ all)
 
 pub sizes : (low : Low) (r : ℕ) → is_valid low ≡ true → Sizes (routine_of low r)
 unfolding is_valid
-sizes low r valid = sizes_in low low.routines r (and_right _ _ valid)
+sizes low r valid = sizes_in low low.routines r (second_so _ _ valid)
 
 -- ---- memory
 
@@ -82,7 +74,7 @@ other_home memory routine sp to r v to_in r_in (inr upper) =
 -- one home in the frame has become a value
 pub stored_home : (memory : ℕ → ℕ) (routine : Routine) (sp to r v old : ℕ) → to < routine.registers → r < routine.registers → v < 2 ^ 32 → word_at memory (place_of routine sp r) ≡ old → word_at (with_bytes memory (place_of routine sp to) (bytes_low_first 0 4 v)) (place_of routine sp r) ≡ cond (nat_eq r to) v old
 stored_home memory routine sp to r v old to_in r_in fits had =
-    let same : (r < to) ⊎ (to < r) → nat_eq r to ≡ false → word_at (with_bytes memory (place_of routine sp to) (bytes_low_first 0 4 v)) (place_of routine sp r) ≡ cond (nat_eq r to) v old = λ apart test. other_home memory routine sp to r v to_in r_in apart ∙ had ∙ sym (cond_false (nat_eq r to) v old test) in
+    let same : (r < to) ⊎ (to < r) → nat_eq r to ≡ false → word_at (with_bytes memory (place_of routine sp to) (bytes_low_first 0 4 v)) (place_of routine sp r) ≡ cond (nat_eq r to) v old = λ apart test. other_home memory routine sp to r v to_in r_in apart ∙ had ∙ sym (cond-false (nat_eq r to) v old test) in
     elim (cases_lt r to) [
       | inl lower ↦ same (inl lower) (grind (arith, nat_tests))
       | inr upper ↦
@@ -91,7 +83,7 @@ stored_home memory routine sp to r v old to_in r_in fits had =
             | inr equal ↦
                 let is : r ≡ to = omega arith in
                 let test : nat_eq r to ≡ true = grind (arith, nat_tests) in
-                ap (λ k. word_at (with_bytes memory (place_of routine sp to) (bytes_low_first 0 4 v)) (place_of routine sp k)) is ∙ word_at-stored memory (place_of routine sp to) v fits ∙ sym (cond_true (nat_eq r to) v old test)
+                ap (λ k. word_at (with_bytes memory (place_of routine sp to) (bytes_low_first 0 4 v)) (place_of routine sp k)) is ∙ word_at-stored memory (place_of routine sp to) v fits ∙ sym (cond-true (nat_eq r to) v old test)
           ]
     ]
 
@@ -100,12 +92,12 @@ stored_home memory routine sp to r v old to_in r_in fits had =
 pub held_register : (memory homes : ℕ → ℕ) (routine : Routine) (sp r : ℕ) → r < 14 → held memory homes routine sp r ≡ homes r
 held_register memory homes routine sp r less =
     let test : nat_lt r 14 ≡ true = grind (arith, nat_tests) in
-    cond_true (nat_lt r 14) (homes r) (word_at memory (place_of routine sp r)) test
+    cond-true (nat_lt r 14) (homes r) (word_at memory (place_of routine sp r)) test
 
 pub held_frame : (memory homes : ℕ → ℕ) (routine : Routine) (sp r : ℕ) → 14 ≤ r → held memory homes routine sp r ≡ word_at memory (place_of routine sp r)
 held_frame memory homes routine sp r over =
     let test : nat_lt r 14 ≡ false = grind (arith, nat_tests) in
-    cond_false (nat_lt r 14) (homes r) (word_at memory (place_of routine sp r)) test
+    cond-false (nat_lt r 14) (homes r) (word_at memory (place_of routine sp r)) test
 
 -- what is kept in the frame, and the homes that are words, are the same
 pub holds_same : (memory other homes others : ℕ → ℕ) (sp : ℕ) (routine : Routine) (registers : ℕ → ℕ) → ((x : ℕ) → sp ≤ x → x < sp + 4 * (routine.registers - 14) → other x ≡ memory x) → ((k : ℕ) → k < 14 → k < routine.registers → homes k < 2 ^ 32 → others k ≡ homes k) → Holds memory homes sp routine registers → Holds other others sp routine registers
@@ -125,13 +117,13 @@ pub restored_saved : (routine : Routine) (memory : ℕ → ℕ) (sp : ℕ) (home
 unfolding restored
 restored_saved routine memory sp homes k less =
     let test : nat_lt k routine.registers ≡ true = grind (arith, nat_tests) in
-    cond_true (nat_lt k routine.registers) (word_at memory (place_of routine sp k)) (homes k) test
+    cond-true (nat_lt k routine.registers) (word_at memory (place_of routine sp k)) (homes k) test
 
 pub restored_kept : (routine : Routine) (memory : ℕ → ℕ) (sp : ℕ) (homes : ℕ → ℕ) (k : ℕ) → routine.registers ≤ k → restored routine memory sp homes k ≡ homes k
 unfolding restored
 restored_kept routine memory sp homes k over =
     let test : nat_lt k routine.registers ≡ false = grind (arith, nat_tests) in
-    cond_false (nat_lt k routine.registers) (word_at memory (place_of routine sp k)) (homes k) test
+    cond-false (nat_lt k routine.registers) (word_at memory (place_of routine sp k)) (homes k) test
 
 restored_same : (routine : Routine) (memory other homes others : ℕ → ℕ) (sp k : ℕ) → ((x : ℕ) → sp + 4 * (routine.registers - 14) ≤ x → other x ≡ memory x) → k < 14 → (routine.registers ≤ k → homes k < 2 ^ 32 → others k ≡ homes k) → restored routine memory sp homes k < 2 ^ 32 → restored routine other sp others k ≡ restored routine memory sp homes k
 restored_same routine memory other homes others sp k same few kept word =
@@ -433,7 +425,7 @@ module _ (w : Setting) (law : IsSetting w) where
           elim (cases_lt r 14) [
             | inl few ↦
                 let test : nat_eq r to.0 ≡ false = grind (arith, nat_tests) in
-                (held_register memory new routine sp r few ∙ same r ∙ sym (held_register b.memory (homes_in b) routine sp r few) ∙ old.0 ∙ sym (cond_false (nat_eq r to.0) v (m.top.registers r) test), word)
+                (held_register memory new routine sp r few ∙ same r ∙ sym (held_register b.memory (homes_in b) routine sp r few) ∙ old.0 ∙ sym (cond-false (nat_eq r to.0) v (m.top.registers r) test), word)
             | inr more ↦
                 (held_frame memory new routine sp r more ∙ stored_home b.memory routine sp to.0 r v (m.top.registers r) within inside fits (sym (held_frame b.memory (homes_in b) routine sp r more) ∙ old.0), word)
           ]

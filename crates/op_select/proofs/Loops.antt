@@ -1,7 +1,8 @@
 -- What the loops of the selection keep.
-use Rattle.std.proofs.Common.{◌≡◌, ℕ, zero, suc, ◌+◌, ◌-◌, ◌<◌, ◌≤◌, Bool, true, false, ◌&&◌, nat_le, List, [], ◌∷◌, ◌++◌, length, drop, get_or, refl, ap, sym, ◌∙◌, append_assoc, append-nil, arith}
+use Rattle.std.proofs.Common.{◌≡◌, ℕ, zero, suc, ◌+◌, ◌-◌, ◌<◌, ◌≤◌, true, nat_le, List, [], ◌∷◌, ◌++◌, length, drop, get_or, ap, sym, ◌∙◌, append_assoc, append-nil, arith}
 use Rattle.std.proofs.lemmas.List.{drop_more, drop_all}
 use Rattle.std.proofs.lemmas.Bool.Decides.{nat_tests}
+use Rattle.std.specs.Cmp.{first_so, second_so}
 use Rattle.std.specs.List.{list_all}
 use Rattle.op_low.specs.Valid.{is_sized, is_valid, is_valid_routine, most_registers}
 use Rattle.op_low.specs.declared.code.Low.{Low}
@@ -29,26 +30,18 @@ passed_more routine rs k d old mid new some most before after =
 
 -- ---- routines
 
-and_left : (a b : Bool) → (a && b) ≡ true → a ≡ true
-and_left true b is = refl
-and_left false b is = absurd cc
-
-and_right : (a b : Bool) → (a && b) ≡ true → b ≡ true
-and_right true b is = is
-and_right false b is = absurd cc
-
 sized_registers : (routine : Routine) → is_sized routine ≡ true → routine.registers ≤ most_registers
 unfolding is_sized
 sized_registers routine is =
-    let test : nat_le routine.registers most_registers ≡ true = and_right _ _ (and_left _ _ (and_left _ _ (and_left _ _ is))) in
+    let test : nat_le routine.registers most_registers ≡ true = second_so _ _ (first_so _ _ (first_so _ _ (first_so _ _ is))) in
     grind (arith, nat_tests)
 
 sized_in : (low : Low) (routines : List Routine) (i : ℕ) (d : Routine) → list_all (is_valid_routine low) routines ≡ true → i < length routines → (get_or routines i d).registers ≤ most_registers
 unfolding is_valid_routine
 sized_in low [] i d all within = absurd (omega arith)
-sized_in low (r ∷ rs) zero d all within = sized_registers r (and_left _ _ (and_left _ _ all))
-sized_in low (r ∷ rs) (suc i) d all within = sized_in low rs i d (and_right _ _ all) (omega arith)
+sized_in low (r ∷ rs) zero d all within = sized_registers r (first_so _ _ (first_so _ _ all))
+sized_in low (r ∷ rs) (suc i) d all within = sized_in low rs i d (second_so _ _ all) (omega arith)
 
 pub sized_at : (low : Low) (i : ℕ) (d : Routine) → is_valid low ≡ true → i < length low.routines → (get_or low.routines i d).registers ≤ most_registers
 unfolding is_valid
-sized_at low i d valid within = sized_in low low.routines i d (and_right _ _ valid) within
+sized_at low i d valid within = sized_in low low.routines i d (second_so _ _ valid) within

@@ -1,11 +1,12 @@
 -- What the operators compute on words are words.
-use Rattle.std.proofs.Common.{◌≡◌, ℕ, ℤ, pos, negsuc, zero, suc, ◌+◌, ◌-◌, ◌*◌, ◌/◌, ◌%◌, ◌^◌, ◌*ℤ◌, neg_ℤ, ◌<◌, ◌≤◌, Bool, true, false, cond, nat_eq, nat_lt, int_lt, arith}
+use Rattle.std.proofs.Common.{◌≡◌, ℕ, ℤ, pos, negsuc, suc, ◌+◌, ◌-◌, ◌*◌, ◌/◌, ◌%◌, ◌^◌, ◌*ℤ◌, ◌<◌, ◌≤◌, Bool, true, false, cond, nat_eq, nat_lt, int_lt, arith}
 use Rattle.std.proofs.Math.Nat.{div-le_self, mod-le, mul-le-mul}
 use Rattle.std.proofs.lemmas.Int.{ints, unsigned_abs-mul}
 use Rattle.std.proofs.lemmas.Nat.{xor_of_32, or_of_32, and_le_l}
 use Rattle.std.specs.Int.{w8, w16, cast_signed, from_bool, int_shr}
 use Rattle.std.specs.Int.RustNames.{int_div, int_rem, unsigned_abs}
 use Rattle.op_rv.proofs.Memory.{word_at-bounded}
+use Rattle.op_rv.proofs.Numbers.{abs_div, abs_neg, abs_signed}
 use Rattle.op_rv.specs.Operation.{signed, word_from, upper_word, shift_value, alu_value, imm_value}
 use Rattle.op_rv.specs.State.{half_at}
 use Rattle.op_rv.specs.Step.{load_value}
@@ -22,9 +23,6 @@ from_bool-bounded : (b : Bool) → from_bool b < 2 ^ 32
 from_bool-bounded true = omega arith
 from_bool-bounded false = omega arith
 
-abs_signed : (a : ℕ) → a < 2 ^ 32 → unsigned_abs (signed a) ≤ 2 ^ 31
-abs_signed a small = omega (arith, ints)
-
 pub word_from-bounded : (z : ℤ) → unsigned_abs z < 2 ^ 32 → word_from z < 2 ^ 32
 word_from-bounded (pos n) small = omega (arith, ints)
 word_from-bounded (negsuc n) small = omega (arith, ints)
@@ -32,22 +30,6 @@ word_from-bounded (negsuc n) small = omega (arith, ints)
 upper_word-bounded : (z : ℤ) → unsigned_abs z < 2 ^ 64 → upper_word z < 2 ^ 32
 upper_word-bounded (pos n) small = omega (arith, ints)
 upper_word-bounded (negsuc n) small = omega (arith, ints)
-
-abs_neg : (n : ℕ) → unsigned_abs (neg_ℤ (pos n)) ≤ n
-abs_neg zero = omega arith
-abs_neg (suc n) = omega arith
-
-abs_div : (a b : ℤ) → unsigned_abs (int_div a b) ≤ unsigned_abs a
-abs_div (pos a) (pos b) = div-le_self a b
-abs_div (pos a) (negsuc b) =
-    let less = div-le_self a (suc b) in
-    let neg = abs_neg (a / suc b) in
-    omega arith
-abs_div (negsuc a) (pos b) =
-    let less = div-le_self (suc a) b in
-    let neg = abs_neg (suc a / b) in
-    omega arith
-abs_div (negsuc a) (negsuc b) = div-le_self (suc a) (suc b)
 
 abs_rem : (a b : ℤ) → unsigned_abs (int_rem a b) ≤ unsigned_abs a
 abs_rem (pos a) b = mod-le a (unsigned_abs b)

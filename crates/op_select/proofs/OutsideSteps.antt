@@ -1,6 +1,8 @@
 -- Instructions that read and write.
 use Rattle.std.proofs.Common.{◌≡◌, ◌≢◌, ℕ, zero, suc, ◌+◌, ◌%◌, ◌^◌, ◌<◌, ◌≤◌, true, ◌&&◌, if◌then◌else◌, nat_eq, List, [], ◌∷◌, ◌++◌, length, get_or, set, take, drop, refl, ap, ap₂, sym, subst, ◌∙◌, arith}
+use Rattle.std.proofs.lemmas.Bool.{cond-true}
 use Rattle.std.proofs.lemmas.List.{get_or-drop, get_or-set_same, get_or-set_other, length-set}
+use Rattle.std.specs.Cmp.{first_so, second_so}
 use Rattle.op_low.specs.Machine.{Written, Taken, act as low_act, write as low_write, read as low_read, written}
 use Rattle.op_low.specs.State.{State as LowState, keep as with_kept, value, usable}
 use Rattle.op_low.specs.Valid.{is_valid_instruction, has}
@@ -8,11 +10,12 @@ use Rattle.op_low.specs.declared.ids.VirtualRegister.{VirtualRegister}
 use Rattle.op_low.specs.declared.instruction.Instruction.TheVariants.{Read, Write}
 use Rattle.op_low.specs.declared.instruction.Output.{Output}
 use Rattle.op_low.specs.declared.instruction.Output.TheVariants.{Console, Errors}
+use Rattle.op_rv.proofs.Environment.{environment_call-read, environment_call-write, read_call-filled}
 use Rattle.op_rv.proofs.Memory.{all_of, bytes_from-same}
-use Rattle.op_rv.specs.Environment.{environment_call, read_call, write_call, exit_call, returned, filled, is_readable, is_writable}
+use Rattle.op_rv.specs.Environment.{write_call, returned, filled, is_readable, is_writable}
 use Rattle.op_rv.specs.State.{State, register, faulted, with_bytes, all_from, bytes_from}
 use Rattle.op_rv.specs.Step.{act}
-use Rattle.op_rv.specs.declared.fault.FaultKind.TheVariants.{Store as StoreFault, Load as LoadFault, Call as CallFault}
+use Rattle.op_rv.specs.declared.fault.FaultKind.TheVariants.{Load as LoadFault, Call as CallFault}
 use Rattle.op_rv.specs.declared.instruction.Instr.TheVariants.{Ecall}
 use Rattle.op_select.specs.Frames.{fetch}
 use Rattle.op_select.specs.Going.{Setting, IsSetting, routine_in, placement_of, Stays, Goes}
@@ -23,10 +26,9 @@ use Rattle.op_select.specs.Sequences.{small}
 use Rattle.op_select.proofs.ControlSteps.{stays_written}
 use Rattle.op_select.proofs.FrameLemmas.{keeps, stays_placed, value-bounded}
 use Rattle.op_select.proofs.SequenceLemmas.{smalls}
-use Rattle.op_select.proofs.ValueSteps.{Steps, both_left, both_right, inside, usable_all}
+use Rattle.op_select.proofs.ValueSteps.{Steps, inside, usable_all}
 use Rattle.op_select.proofs.Walks.{Walk, walk_join, walk_weaken, walk_step, advanced_pc, placed, sound_placed, plain_first, split, nothing_more}
 use Rattle.op_select.proofs.FrameLemmas.{fetches}
-use Rattle.op_select.proofs.WordLemmas.{cond_true}
 
 -- the registers of an environment call
 pub record Arguments (b : State) (a n descriptor number at : ℕ) : Type 0 where
@@ -48,14 +50,6 @@ wrote Errors bytes s = record s { errors = s.errors ++ bytes }
 
 -- ---- what the environment does
 
-environment_write : (s : State) → register s 17 ≡ 64 → environment_call s ≡ write_call s
-unfolding environment_call
-environment_write s is = ap (λ n. if nat_eq n 63 then read_call s else (if nat_eq n 64 then write_call s else (if nat_eq n 93 then exit_call s else faulted CallFault s))) is
-
-environment_read : (s : State) → register s 17 ≡ 63 → environment_call s ≡ read_call s
-unfolding environment_call
-environment_read s is = ap (λ n. if nat_eq n 63 then read_call s else (if nat_eq n 64 then write_call s else (if nat_eq n 93 then exit_call s else faulted CallFault s))) is
-
 write_does : (output : Output) (s : State) → register s 10 ≡ descriptor_of output → is_readable s ≡ true → write_call s ≡ wrote output (bytes_from s.memory (register s 11) (register s 12)) (returned (register s 12) s)
 unfolding write_call
 write_does Console s is can =
@@ -63,13 +57,13 @@ write_does Console s is can =
     let first = if is_readable s then record (returned (register s 12) s) { output = s.output ++ bytes } else faulted LoadFault s in
     let second = if is_readable s then record (returned (register s 12) s) { errors = s.errors ++ bytes } else faulted LoadFault s in
     let chosen : (if nat_eq (register s 10) 1 then first else (if nat_eq (register s 10) 2 then second else faulted CallFault s)) ≡ first = ap (λ n. if nat_eq n 1 then first else (if nat_eq n 2 then second else faulted CallFault s)) is in
-    chosen ∙ cond_true (is_readable s) (record (returned (register s 12) s) { output = s.output ++ bytes }) (faulted LoadFault s) can
+    chosen ∙ cond-true (is_readable s) (record (returned (register s 12) s) { output = s.output ++ bytes }) (faulted LoadFault s) can
 write_does Errors s is can =
     let bytes = bytes_from s.memory (register s 11) (register s 12) in
     let first = if is_readable s then record (returned (register s 12) s) { output = s.output ++ bytes } else faulted LoadFault s in
     let second = if is_readable s then record (returned (register s 12) s) { errors = s.errors ++ bytes } else faulted LoadFault s in
     let chosen : (if nat_eq (register s 10) 1 then first else (if nat_eq (register s 10) 2 then second else faulted CallFault s)) ≡ second = ap (λ n. if nat_eq n 1 then first else (if nat_eq n 2 then second else faulted CallFault s)) is in
-    chosen ∙ cond_true (is_readable s) (record (returned (register s 12) s) { errors = s.errors ++ bytes }) (faulted LoadFault s) can
+    chosen ∙ cond-true (is_readable s) (record (returned (register s 12) s) { errors = s.errors ++ bytes }) (faulted LoadFault s) can
 
 write_shows : (output : Output) (s : State) → register s 17 ≡ 64 → register s 10 ≡ descriptor_of output → is_readable s ≡ true → call_event s ≡ Written output (bytes_from s.memory (register s 11) (register s 12)) ∷ []
 unfolding call_event
@@ -77,19 +71,12 @@ write_shows Console s number is can =
     let bytes = bytes_from s.memory (register s 11) (register s 12) in
     let called : call_event s ≡ write_event s = ap (λ n. if nat_eq n 63 then read_event s else (if nat_eq n 64 then write_event s else [])) number in
     let chosen : write_event s ≡ event_if (is_readable s) (Written Console bytes) = ap (λ n. if nat_eq n 1 then event_if (is_readable s) (Written Console bytes) else event_if (nat_eq n 2 && is_readable s) (Written Errors bytes)) is in
-    called ∙ chosen ∙ cond_true (is_readable s) (Written Console bytes ∷ []) [] can
+    called ∙ chosen ∙ cond-true (is_readable s) (Written Console bytes ∷ []) [] can
 write_shows Errors s number is can =
     let bytes = bytes_from s.memory (register s 11) (register s 12) in
     let called : call_event s ≡ write_event s = ap (λ n. if nat_eq n 63 then read_event s else (if nat_eq n 64 then write_event s else [])) number in
     let chosen : write_event s ≡ event_if (is_readable s) (Written Errors bytes) = ap (λ n. if nat_eq n 1 then event_if (is_readable s) (Written Console bytes) else event_if (nat_eq n 2 && is_readable s) (Written Errors bytes)) is in
-    called ∙ chosen ∙ cond_true (is_readable s) (Written Errors bytes ∷ []) [] can
-
-read_does : (s : State) → register s 10 ≡ 0 → is_writable s ≡ true → read_call s ≡ filled (take (register s 12) s.input) s
-unfolding read_call
-read_does s is can =
-    let first = if is_writable s then filled (take (register s 12) s.input) s else faulted StoreFault s in
-    let chosen : (if nat_eq (register s 10) 0 then first else faulted CallFault s) ≡ first = ap (λ n. if nat_eq n 0 then first else faulted CallFault s) is in
-    chosen ∙ cond_true (is_writable s) (filled (take (register s 12) s.input) s) (faulted StoreFault s) can
+    called ∙ chosen ∙ cond-true (is_readable s) (Written Errors bytes ∷ []) [] can
 
 read_shows : (s : State) → register s 17 ≡ 63 → register s 10 ≡ 0 → is_writable s ≡ true → call_event s ≡ Taken (take (register s 12) s.input) ∷ []
 unfolding call_event
@@ -97,7 +84,7 @@ read_shows s number is can =
     let bytes = take (register s 12) s.input in
     let called : call_event s ≡ read_event s = ap (λ n. if nat_eq n 63 then read_event s else (if nat_eq n 64 then write_event s else [])) number in
     let chosen : read_event s ≡ event_if (is_writable s) (Taken bytes) = ap (λ n. event_if (nat_eq n 0 && is_writable s) (Taken bytes)) is in
-    called ∙ chosen ∙ cond_true (is_writable s) (Taken bytes ∷ []) [] can
+    called ∙ chosen ∙ cond-true (is_writable s) (Taken bytes ∷ []) [] can
 
 -- ---- bytes
 
@@ -206,7 +193,7 @@ module _ (w : Setting) (law : IsSetting w) where
       let bytes = bytes_from m.memory a n in
       let whole = split w.placing r b.pc (items_of routine (Write output buffer size)) _ end stands in
       let parts = split w.placing r b.pc (fetch routine 11 buffer ++ fetch routine 12 size ++ small 10 (descriptor_of output) ++ small 17 64) _ whole.middle whole.first in
-      let args = arguments m b buffer size (descriptor_of output) 64 parts.middle stays (inside w law m buffer (both_left _ _ valid)) (inside w law m size (both_right (has routine buffer) _ valid)) (descriptor-bounded output) (omega arith) parts.first in
+      let args = arguments m b buffer size (descriptor_of output) 64 parts.middle stays (inside w law m buffer (first_so _ _ valid)) (inside w law m size (second_so (has routine buffer) _ valid)) (descriptor-bounded output) (omega arith) parts.first in
       let c = placed b args.registers parts.middle in
       let stays_c = stays_placed w law m b args.registers parts.middle stays args.size args.sp_same args.limit_same args.homes_same in
       let first = plain_first w.placing r parts.middle Ecall _ whole.middle parts.second in
@@ -217,7 +204,7 @@ module _ (w : Setting) (law : IsSetting w) where
       let bytes_is : bytes_from c.memory (register c 11) (register c 12) ≡ bytes = ap₂ (bytes_from c.memory) args.buffer_is args.length_is ∙ bytes_from-same m.memory c.memory a n (λ x from before. stays_c.memory x (usable_ x from before).1) in
       let at = advanced_pc w law c Ecall first.0 ∙ there in
       let d = placed c (set c.registers 10 (register c 12)) whole.middle in
-      let does = environment_write c args.number_is ∙ write_does output c args.descriptor_is readable ∙ ap (λ bs. wrote output bs (returned (register c 12) c)) bytes_is ∙ wrote_placed output bytes c (register c 12) whole.middle at in
+      let does = environment_call-write c args.number_is ∙ write_does output c args.descriptor_is readable ∙ ap (λ bs. wrote output bs (returned (register c 12) c)) bytes_is ∙ wrote_placed output bytes c (register c 12) whole.middle at in
       let shows = write_shows output c args.number_is args.descriptor_is readable ∙ ap (λ bs. Written output bs ∷ []) bytes_is in
       let one = walk_step w law c (wrote output bytes d) Ecall (Written output bytes ∷ []) stays_c.sound first.0 shows does in
       let size_d = length-set c.registers 10 (register c 12) ∙ args.size in
@@ -228,7 +215,7 @@ module _ (w : Setting) (law : IsSetting w) where
         goes = goes;
         walk = walk_weaken b (wrote output bytes d) 5 9 1 9 (Written output bytes ∷ []) (omega arith) (omega arith) (walk_join b c (wrote output bytes d) 4 8 1 1 [] (Written output bytes ∷ []) args.walk one);
       } in
-      subst (λ s. Steps w s b 9 (Written output bytes ∷ [])) (sym (cond_true (all_from (usable w.rights.readable m) a n) (written output bytes m) _ can)) steps
+      subst (λ s. Steps w s b 9 (Written output bytes ∷ [])) (sym (cond-true (all_from (usable w.rights.readable m) a n) (written output bytes m) _ can)) steps
 
   -- ---- reads
 
@@ -243,9 +230,9 @@ module _ (w : Setting) (law : IsSetting w) where
       let whole = split w.placing r b.pc (items_of routine (Read to buffer size)) _ end stands in
       let kept = split w.placing r b.pc (transfer routine buffer size 0 63) _ whole.middle whole.first in
       let parts = split w.placing r b.pc (fetch routine 11 buffer ++ fetch routine 12 size ++ small 10 0 ++ small 17 63) _ kept.middle kept.first in
-      let to_buffer : (has routine to && has routine buffer) ≡ true = both_left _ _ valid in
-      let size_in = inside w law m size (both_right (has routine to && has routine buffer) _ valid) in
-      let args = arguments m b buffer size 0 63 parts.middle stays (inside w law m buffer (both_right (has routine to) _ to_buffer)) size_in (omega arith) (omega arith) parts.first in
+      let to_buffer : (has routine to && has routine buffer) ≡ true = first_so _ _ valid in
+      let size_in = inside w law m size (second_so (has routine to && has routine buffer) _ valid) in
+      let args = arguments m b buffer size 0 63 parts.middle stays (inside w law m buffer (second_so (has routine to) _ to_buffer)) size_in (omega arith) (omega arith) parts.first in
       let c = placed b args.registers parts.middle in
       let stays_c = stays_placed w law m b args.registers parts.middle stays args.size args.sp_same args.limit_same args.homes_same in
       let first = plain_first w.placing r parts.middle Ecall _ kept.middle parts.second in
@@ -259,7 +246,7 @@ module _ (w : Setting) (law : IsSetting w) where
       let filled_at : ℕ → List ℕ → ℕ → State = λ k bs at. record (placed c (set c.registers 10 (length bs)) at) { memory = with_bytes c.memory k bs; input = drop (length bs) c.input } in
       let at = advanced_pc w law c Ecall first.0 ∙ there in
       let d = filled_at a bytes kept.middle in
-      let does = environment_read c args.number_is ∙ read_does c args.descriptor_is writable ∙ ap (λ bs. filled bs c) bytes_is ∙ ap (λ k. filled_at k bytes ((c.pc + 4) % 2 ^ 32)) args.buffer_is ∙ ap (filled_at a bytes) at in
+      let does = environment_call-read c args.number_is ∙ read_call-filled c args.descriptor_is writable ∙ ap (λ bs. filled bs c) bytes_is ∙ ap (λ k. filled_at k bytes ((c.pc + 4) % 2 ^ 32)) args.buffer_is ∙ ap (filled_at a bytes) at in
       let shows = read_shows c args.number_is args.descriptor_is writable ∙ ap (λ bs. Taken bs ∷ []) bytes_is in
       let one = walk_step w law c d Ecall (Taken bytes ∷ []) stays_c.sound first.0 shows does in
       let size_d = length-set c.registers 10 (length bytes) ∙ args.size in
@@ -281,10 +268,10 @@ module _ (w : Setting) (law : IsSetting w) where
       } in
       let size_c = args.size in
       let value_is = get_or-set_same c.registers 10 (length bytes) 0 (omega arith) in
-      let last = keeps w law m' d 10 (length bytes) to whole.middle stays_d (inside w law m to (both_left _ _ to_buffer)) (omega arith) (omega arith) value_is (omega arith) kept.second in
+      let last = keeps w law m' d 10 (length bytes) to whole.middle stays_d (inside w law m to (first_so _ _ to_buffer)) (omega arith) (omega arith) value_is (omega arith) kept.second in
       let steps : Steps w (with_kept to (length bytes) m') b 12 (Taken bytes ∷ []) = record {
         after = last.after;
         goes = record { stays = last.stays; ready = record { end = end; stands = subst (λ k. Stands w.placing r k (code_items routine m.top.now) end) (sym last.there) whole.second } };
         walk = walk_weaken b last.after 6 12 1 12 (Taken bytes ∷ []) (omega arith) (omega arith) (walk_join b d last.after 5 9 1 3 (Taken bytes ∷ []) [] (walk_join b c d 4 8 1 1 [] (Taken bytes ∷ []) args.walk one) last.walk);
       } in
-      subst (λ s. Steps w s b 12 (Taken bytes ∷ [])) (sym (cond_true (all_from (usable w.rights.writable m) a n) (with_kept to (length bytes) m') _ can)) steps
+      subst (λ s. Steps w s b 12 (Taken bytes ∷ [])) (sym (cond-true (all_from (usable w.rights.writable m) a n) (with_kept to (length bytes) m') _ can)) steps

@@ -1,6 +1,6 @@
 -- Homes of the caller: the words below sp to which they are saved, and from which they come back.
 use Rattle.std.proofs.Common.{◌≡◌, ◌≢◌, ℕ, ℤ, pos, zero, suc, ◌+◌, ◌-◌, ◌*◌, ◌%◌, ◌^◌, ◌-ℤ◌, ◌<◌, ◌≤◌, inl, inr, true, Some, List, [], length, get_or, refl, ap, sym, subst, ◌∙◌, arith}
-use Rattle.std.proofs.lemmas.Bool.{cases_lt}
+use Rattle.std.proofs.lemmas.Bool.{cases_lt, cond-true}
 use Rattle.std.proofs.lemmas.Int.{ints}
 use Rattle.std.specs.Int.{bytes_low_first}
 use Rattle.op_rv.proofs.Memory.{can_access_word, four-bounded}
@@ -18,7 +18,6 @@ use Rattle.op_select.specs.RiscvMachine.{instr_shows}
 use Rattle.op_select.proofs.ClearLemmas.{stored}
 use Rattle.op_select.proofs.FrameLemmas.{sound_stored}
 use Rattle.op_select.proofs.Walks.{Walk, walk_none, walk_join, walk_weaken, walk_step, advanced_pc, placed, sound_placed, Becomes, becomes, register_is, plain_first, split, nothing_more}
-use Rattle.op_select.proofs.WordLemmas.{cond_true}
 
 pub four_below : (x : ℕ) → 4 ≤ x → x < 2 ^ 32 → (x + word_from (pos 0 -ℤ pos 4)) % 2 ^ 32 ≡ x - 4
 four_below x most small = omega (arith, ints)
@@ -55,7 +54,7 @@ module _ (w : Setting) (law : IsSetting w) where
       let address : offset_from (register b 2) offset ≡ a = ap (λ n. offset_from n offset) sp_is ∙ place in
       let writable : (x : ℕ) → a ≤ x → x < a + 4 → w.rights.writable x ≡ true = λ x lower upper. law.writable x (omega arith) (omega arith) in
       let may : can_access b.rights.writable a 4 ≡ true = can_access_word b.rights.writable a aligned (λ x lower upper. subst (λ rights. rights.writable x ≡ true) (sym sound.rights) (writable x lower upper)) in
-      let done = ap (λ n. store Sw (register b q) n b) address ∙ cond_true (can_access b.rights.writable a 4) (advanced (after (register b q))) (faulted StoreFault b) may ∙ ap (λ n. advanced (after n)) (register_is b q some) ∙ ap (λ n. record (after v) { pc = n }) (advanced_pc w law b i stands) in
+      let done = ap (λ n. store Sw (register b q) n b) address ∙ cond-true (can_access b.rights.writable a 4) (advanced (after (register b q))) (faulted StoreFault b) may ∙ ap (λ n. advanced (after n)) (register_is b q some) ∙ ap (λ n. record (after v) { pc = n }) (advanced_pc w law b i stands) in
       record {
         sound = sound_stored w law b b.registers (b.pc + 4) a (bytes_low_first 0 4 v) sound sound.size (four-bounded v) writable;
         walk = walk_step w law b (record (after v) { pc = b.pc + 4 }) i [] sound stands refl done;
@@ -66,7 +65,7 @@ module _ (w : Setting) (law : IsSetting w) where
   loads_below b to sp a offset sound sp_is some small place aligned bottom top stands =
       let address : offset_from (register b 2) offset ≡ a = ap (λ n. offset_from n offset) sp_is ∙ place in
       let may : can_access b.rights.readable a 4 ≡ true = can_access_word b.rights.readable a aligned (λ x from before. subst (λ rights. rights.readable x ≡ true) (sym sound.rights) (law.readable x (omega arith) (omega arith))) in
-      let done = ap (λ n. load Lw to n b) address ∙ cond_true (can_access b.rights.readable a 4) (advanced (with_register b to (word_at b.memory a))) (faulted LoadFault b) may in
+      let done = ap (λ n. load Lw to n b) address ∙ cond-true (can_access b.rights.readable a 4) (advanced (with_register b to (word_at b.memory a))) (faulted LoadFault b) may in
       becomes w law b (Load Lw to 2 offset) to (word_at b.memory a) sound stands some small refl done
 
   pub gives_back : (n : ℕ) (b : State) (r sp at : ℕ) → Sound w b → get_or b.registers 2 0 ≡ sp → sp % 4 ≡ 0 → n ≤ 14 → w.bottom + 4 * n + 4 ≤ sp → sp ≤ w.top → Stands w.placing r b.pc (given_back n) at → GivesBack b sp n at

@@ -1,5 +1,6 @@
 -- What the short sequences do.
 use Rattle.std.proofs.Common.{◌≡◌, ◌≢◌, ℕ, pos, ◌+◌, ◌*◌, ◌%◌, ◌^◌, ◌<◌, ◌≤◌, Bool, true, false, cond, List, [], ◌∷◌, length, get_or, refl, ap, sym, subst, ◌∙◌, arith}
+use Rattle.std.proofs.lemmas.Bool.{cond-true}
 use Rattle.std.proofs.lemmas.Int.{ints}
 use Rattle.std.specs.Int.{bytes_low_first}
 use Rattle.op_rv.proofs.Memory.{can_access_word}
@@ -18,7 +19,7 @@ use Rattle.op_select.specs.Placing.{Stands}
 use Rattle.op_select.specs.RiscvMachine.{instr_shows}
 use Rattle.op_select.specs.Sequences.{upper_of, lower_of, is_near, small, constant, reach, reached, sum, word_load, word_store}
 use Rattle.op_select.proofs.Walks.{Walk, walk_none, walk_join, walk_weaken, walk_step, advanced_pc, placed, sound_placed, Becomes, becomes, register_is, plain_first, split, nothing_more}
-use Rattle.op_select.proofs.WordLemmas.{cond_true, near_sum, far_sum, far_constant, near_constant, no_distance}
+use Rattle.op_select.proofs.WordLemmas.{near_sum, far_sum, far_constant, near_constant, no_distance}
 
 -- the place at a distance is reached
 pub record Reaches (b : State) (base via from word at : ℕ) : Type 0 where
@@ -110,7 +111,7 @@ module _ (w : Setting) (law : IsSetting w) where
       let last = plain_first w.placing r c.pc i _ at parts.second in
       let address : (register c from + word_from (lower_of word)) % 2 ^ 32 ≡ a = ap (λ n. (n + word_from (lower_of word)) % 2 ^ 32) (register_is c from reaching.some) ∙ reaching.sum_is ∙ place in
       let may : can_access c.rights.readable a 4 ≡ true = can_access_word c.rights.readable a aligned (λ x from before. subst (λ rights. rights.readable x ≡ true) (sym sound.rights) (readable x from before)) in
-      let done = ap (λ n. load Lw to n c) address ∙ cond_true (can_access c.rights.readable a 4) (advanced (with_register c to (word_at c.memory a))) (faulted LoadFault c) may in
+      let done = ap (λ n. load Lw to n c) address ∙ cond-true (can_access c.rights.readable a 4) (advanced (with_register c to (word_at c.memory a))) (faulted LoadFault c) may in
       let loaded = becomes w law c i to (word_at c.memory a) sound_c last.0 to_some to_small refl done in
       let there = nothing_more w.placing r (c.pc + 4) at last.1 in
       let walk = walk_join b c (placed b loaded.registers (c.pc + 4)) 0 2 1 1 [] [] reaching.walk loaded.walk in
@@ -137,7 +138,7 @@ module _ (w : Setting) (law : IsSetting w) where
       let may : can_access c.rights.writable a 4 ≡ true = can_access_word c.rights.writable a aligned (λ x from before. subst (λ rights. rights.writable x ≡ true) (sym sound.rights) (writable x from before)) in
       let value_is : register c value ≡ get_or b.registers value 0 = register_is c value value_some ∙ reaching.others value value_apart in
       let after : ℕ → State = λ n. record c { memory = with_bytes c.memory a (bytes_low_first 0 4 n) } in
-      let done = ap (λ n. store Sw (register c value) n c) address ∙ cond_true (can_access c.rights.writable a 4) (advanced (after (register c value))) (faulted StoreFault c) may ∙ ap (λ n. advanced (after n)) value_is ∙ ap (λ n. record (after (get_or b.registers value 0)) { pc = n }) (advanced_pc w law c i last.0) in
+      let done = ap (λ n. store Sw (register c value) n c) address ∙ cond-true (can_access c.rights.writable a 4) (advanced (after (register c value))) (faulted StoreFault c) may ∙ ap (λ n. advanced (after n)) value_is ∙ ap (λ n. record (after (get_or b.registers value 0)) { pc = n }) (advanced_pc w law c i last.0) in
       let one = walk_step w law c (record (after (get_or b.registers value 0)) { pc = c.pc + 4 }) i [] sound_c last.0 refl done in
       let there = nothing_more w.placing r (c.pc + 4) at last.1 in
       let walk = walk_join b c (record (after (get_or b.registers value 0)) { pc = c.pc + 4 }) 0 2 1 1 [] [] reaching.walk one in

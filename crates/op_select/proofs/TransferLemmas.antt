@@ -1,6 +1,9 @@
 -- Transfers and choices, near and far; where blocks stand.
 use Rattle.std.proofs.Common.{◌≡◌, ◌≢◌, ℕ, ℤ, zero, suc, ◌+◌, ◌*◌, ◌/◌, ◌%◌, ◌^◌, ◌<◌, Bool, true, false, not, cond, nat_eq, nat_lt, int_lt, Option, Some, None, List, [], ◌∷◌, ◌++◌, length, map, option_map, get_or, set, slice_get, refl, ap, ap₂, sym, subst, ◌∙◌, arith}
+use Rattle.std.proofs.lemmas.Bool.{cond-false, cond-true}
 use Rattle.std.proofs.lemmas.List.{get_or-set_same, get_or-set_other, length-set}
+use Rattle.op_base.proofs.Lists.{stays_front}
+use Rattle.op_base.proofs.Tests.{twice_not}
 use Rattle.op_low.specs.State.{routine_or, block_of, code_or}
 use Rattle.op_low.specs.declared.code.Block.{Block}
 use Rattle.op_low.specs.declared.code.Routine.{Routine}
@@ -18,7 +21,6 @@ use Rattle.op_select.specs.Frames.{head_of}
 use Rattle.op_select.specs.RiscvMachine.{instr_shows}
 use Rattle.op_select.specs.Selection.{items_of, code_items, object_block_of, object_routine_of, select_of}
 use Rattle.op_select.proofs.Walks.{Walk, walk_join, walk_weaken, walk_step, advanced_pc, placed, sound_placed, becomes}
-use Rattle.op_select.proofs.WordLemmas.{cond_true, cond_false}
 
 -- the code goes on at an address; ra may have changed
 pub record Moved (b : State) (at most : ℕ) : Type 0 where
@@ -35,17 +37,13 @@ pub record Linked (b : State) (at back most : ℕ) : Type 0 where
   pub others : (q : ℕ) → q ≢ 1 → get_or registers q 0 ≡ get_or b.registers q 0
   pub walk : Walk b (placed b registers at) 1 most []
 
-not_not : (b : Bool) → b ≡ not (not b)
-not_not true = refl
-not_not false = refl
-
 pub opposite_taken : (op : BranchOp) (a b : ℕ) → branch_taken (opposite op) a b ≡ not (branch_taken op a b)
 opposite_taken Beq a b = refl
-opposite_taken Bne a b = not_not (nat_eq a b)
+opposite_taken Bne a b = twice_not (nat_eq a b)
 opposite_taken Blt a b = refl
-opposite_taken Bge a b = not_not (int_lt (signed a) (signed b))
+opposite_taken Bge a b = twice_not (int_lt (signed a) (signed b))
 opposite_taken Bltu a b = refl
-opposite_taken Bgeu a b = not_not (nat_lt a b)
+opposite_taken Bgeu a b = twice_not (nat_lt a b)
 
 module _ (w : Setting) (law : IsSetting w) where
   pub jumps : (b : State) (target : ℕ) (is : List Instr) → Sound w b → Transfer target 0 b.pc is → StandsHere w.placing b.pc is → Moved b target 2
@@ -112,9 +110,9 @@ module _ (w : Setting) (law : IsSetting w) where
   pub branches : (b : State) (op : BranchOp) (left right : ℕ) (offset : ℤ) (taken : Bool) → Sound w b → branch_taken op (register b left) (register b right) ≡ taken → w.placing.code b.pc ≡ Some (Branch op left right offset) → Walk b (placed b b.registers (cond taken (offset_from b.pc offset) (b.pc + 4))) 1 1 []
   unfolding act instr_shows
   branches b op left right offset true sound is stands =
-      walk_step w law b (placed b b.registers (offset_from b.pc offset)) (Branch op left right offset) [] sound stands refl (cond_true (branch_taken op (register b left) (register b right)) (placed b b.registers (offset_from b.pc offset)) (advanced b) is)
+      walk_step w law b (placed b b.registers (offset_from b.pc offset)) (Branch op left right offset) [] sound stands refl (cond-true (branch_taken op (register b left) (register b right)) (placed b b.registers (offset_from b.pc offset)) (advanced b) is)
   branches b op left right offset false sound is stands =
-      walk_step w law b (placed b b.registers (b.pc + 4)) (Branch op left right offset) [] sound stands refl (cond_false (branch_taken op (register b left) (register b right)) (placed b b.registers (offset_from b.pc offset)) (advanced b) is ∙ ap (placed b b.registers) (advanced_pc w law b (Branch op left right offset) stands))
+      walk_step w law b (placed b b.registers (b.pc + 4)) (Branch op left right offset) [] sound stands refl (cond-false (branch_taken op (register b left) (register b right)) (placed b b.registers (offset_from b.pc offset)) (advanced b) is ∙ ap (placed b b.registers) (advanced_pc w law b (Branch op left right offset) stands))
 
   pub chooses : (b : State) (target : ℕ) (op : BranchOp) (left right : ℕ) (is : List Instr) (taken : Bool) → Sound w b → branch_taken op (register b left) (register b right) ≡ taken → Choice target op left right b.pc is → StandsHere w.placing b.pc is → Moved b (cond taken target (past b.pc is)) 3
   unfolding StandsHere past
@@ -160,11 +158,6 @@ map_at f [] i x is = absurd cc
 map_at f (y ∷ ys) zero x is = ap (option_map f) is
 map_at f (y ∷ ys) (suc i) x is = map_at f ys i x is
 
-front_at : {A : Type 0} (xs ys : List A) (i : ℕ) (x : A) → slice_get xs i ≡ Some x → slice_get (xs ++ ys) i ≡ Some x
-front_at [] ys i x is = absurd cc
-front_at (z ∷ zs) ys zero x is = is
-front_at (z ∷ zs) ys (suc i) x is = front_at zs ys i x is
-
 end_at : {A B : Type 0} (f : A → B) (xs : List A) (y : B) → slice_get (map f xs ++ y ∷ []) (length xs) ≡ Some y
 end_at f [] y = refl
 end_at f (x ∷ xs) y = end_at f xs y
@@ -174,7 +167,7 @@ unfolding select_of object_routine_of object_block_of code_items
 block_stands_in w r b routine None law is block = record { end = w.placing.block r b; stands = Nothing refl }
 block_stands_in w r b routine (Some x) law is block =
     let whole = law.objects.routines r (object_routine_of routine) (map_at object_routine_of w.low.routines r routine is) in
-    whole.blocks b (object_block_of routine x) (front_at (map (object_block_of routine) routine.blocks) _ b (object_block_of routine x) (map_at (object_block_of routine) routine.blocks b x block))
+    whole.blocks b (object_block_of routine x) (stays_front (map (object_block_of routine) routine.blocks) _ b (object_block_of routine x) (map_at (object_block_of routine) routine.blocks b x block))
 
 block_stands_by : (w : Setting) (r b : ℕ) (o : Option Routine) → IsSetting w → slice_get w.low.routines r ≡ o → StandsFrom w.placing r (w.placing.block r b) (code_items (routine_or o) (code_or (slice_get (routine_or o).blocks b)))
 unfolding code_items

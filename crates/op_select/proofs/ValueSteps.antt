@@ -1,7 +1,8 @@
 -- Instructions that compute a value: a step of low code with one of them is some steps of the machine.
 use Rattle.std.proofs.Common.{◌≡◌, ◌≢◌, ℕ, ℤ, pos, negsuc, zero, suc, ◌+◌, ◌-◌, ◌*◌, ◌%◌, ◌^◌, ◌<◌, ◌≤◌, inl, inr, Bool, true, false, cond, ◌&&◌, nat_eq, nat_lt, Some, List, [], ◌∷◌, ◌++◌, length, get_or, refl, ap, ap₂, sym, subst, ◌∙◌, arith}
-use Rattle.std.proofs.lemmas.Bool.{ltb-true, cases_lt}
+use Rattle.std.proofs.lemmas.Bool.{ltb-true, cases_lt, and_from, cond-true}
 use Rattle.std.proofs.lemmas.Int.{ints}
+use Rattle.std.specs.Cmp.{first_so, second_so}
 use Rattle.std.specs.Int.{w8, w16, cast_signed}
 use Rattle.op_low.specs.Machine.{Event, act as low_act, load as low_load}
 use Rattle.op_low.specs.State.{State as LowState, keep as with_kept, value, usable}
@@ -37,7 +38,6 @@ use Rattle.op_select.proofs.FrameLemmas.{Result, below_top, below_bottom, brings
 use Rattle.op_select.proofs.OperationLemmas.{alu-bounded, imm-bounded, shift-bounded, load-bounded}
 use Rattle.op_select.proofs.SequenceLemmas.{constants, sums}
 use Rattle.op_select.proofs.Walks.{Walk, walk_join, placed, sound_placed, Becomes, becomes, register_is, plain_first, split}
-use Rattle.op_select.proofs.WordLemmas.{cond_true, and_true}
 
 -- two operands have their values; a0 and a1 may have changed
 pub record Two (b : State) (first second x y at : ℕ) : Type 0 where
@@ -57,14 +57,6 @@ pub record Steps (w : Setting) (m : LowState) (b : State) (most : ℕ) (events :
   pub walk : Walk b after 1 most events
 
 -- ---- what valid instructions name
-
-pub both_left : (a b : Bool) → (a && b) ≡ true → a ≡ true
-both_left true b is = refl
-both_left false b is = absurd cc
-
-pub both_right : (a b : Bool) → (a && b) ≡ true → b ≡ true
-both_right true b is = is
-both_right false b is = absurd cc
 
 -- the two instructions of an address
 pub record AddressFirst (g : Placing) (r at rd : ℕ) (symbol : Symbol) (items : List Item) (end : ℕ) : Type 0 where
@@ -99,15 +91,15 @@ unfolding all_from
 usable_all right m a zero all x from before = absurd (omega arith)
 usable_all right m a (suc n) all x from before =
     elim (cases_lt a x) [
-      | inl later ↦ usable_all right m (a + 1) n (both_right (usable right m a) _ all) x (omega arith) (omega arith)
+      | inl later ↦ usable_all right m (a + 1) n (second_so (usable right m a) _ all) x (omega arith) (omega arith)
       | inr here ↦
           let same : a ≡ x = omega arith in
-          let one : (right a && nat_lt a m.limit) ≡ true = both_left (usable right m a) _ all in
-          subst (λ y. (right y ≡ true) × (y < m.limit)) same (both_left _ _ one, ltb-true a m.limit (both_right (right a) _ one))
+          let one : (right a && nat_lt a m.limit) ≡ true = first_so (usable right m a) _ all in
+          subst (λ y. (right y ≡ true) × (y < m.limit)) same (first_so _ _ one, ltb-true a m.limit (second_so (right a) _ one))
     ]
 
 pub access_of : (right : ℕ → Bool) (m : LowState) (a n : ℕ) → can_access (usable right m) a n ≡ true → can_access right a n ≡ true
-access_of right m a n can = and_true (nat_eq (a % n) 0) (all_from right a n) (both_left (nat_eq (a % n) 0) _ can) (all_of right a n (λ x from before. (usable_all right m a n (both_right (nat_eq (a % n) 0) _ can) x from before).0))
+access_of right m a n can = and_from (nat_eq (a % n) 0) (all_from right a n) (first_so (nat_eq (a % n) 0) _ can) (all_of right a n (λ x from before. (usable_all right m a n (second_so (nat_eq (a % n) 0) _ can) x from before).0))
 
 module _ (w : Setting) (law : IsSetting w) where
   pub inside : (m : LowState) (r : VirtualRegister) → has (routine_in w m.top.routine) r ≡ true → r.0 < (routine_in w m.top.routine).registers
@@ -199,9 +191,9 @@ module _ (w : Setting) (law : IsSetting w) where
       let target = targets (routine_in w m.top.routine) to in
       let whole = split w.placing m.top.routine b.pc (items_of (routine_in w m.top.routine) (Const to n)) _ end stands in
       let parts = split w.placing m.top.routine b.pc (constant t n) _ whole.middle whole.first in
-      let fits = ltb-true n (2 ^ 32) (both_right _ _ valid) in
+      let fits = ltb-true n (2 ^ 32) (second_so _ _ valid) in
       let made = constants w law b m.top.routine t n parts.middle stays.sound target.some target.small fits parts.first in
-      finish m b n parts.middle whole.middle end 1 2 to stays (result_of b t n parts.middle 1 2 target made) (omega arith) fits (inside m to (both_left _ _ valid)) parts.second whole.second
+      finish m b n parts.middle whole.middle end 1 2 to stays (result_of b t n parts.middle 1 2 target made) (omega arith) fits (inside m to (first_so _ _ valid)) parts.second whole.second
 
   pub move_steps : (m : LowState) (b : State) (to from : VirtualRegister) (end : ℕ) → Stays w m b → is_valid_instruction w.low (routine_in w m.top.routine) (Move to from) ≡ true → Stands w.placing m.top.routine b.pc (items_of (routine_in w m.top.routine) (Move to from) ++ code_items (routine_in w m.top.routine) m.top.now) end → Steps w (low_act w.low (placement_of w) (Move to from) m) b 6 []
   unfolding is_valid_instruction items_of low_act
@@ -210,9 +202,9 @@ module _ (w : Setting) (law : IsSetting w) where
       let target = targets (routine_in w m.top.routine) to in
       let whole = split w.placing m.top.routine b.pc (items_of (routine_in w m.top.routine) (Move to from)) _ end stands in
       let parts = split w.placing m.top.routine b.pc (fetch (routine_in w m.top.routine) t from) _ whole.middle whole.first in
-      let from_in = inside m from (both_right _ _ valid) in
+      let from_in = inside m from (second_so _ _ valid) in
       let made = fetches w law m b t from parts.middle stays from_in target.some target.small (λ e. target.not_sp (sym e)) parts.first in
-      finish m b (value m from) parts.middle whole.middle end 1 3 to stays (result_of b t (value m from) parts.middle 1 3 target made) (omega arith) (value-bounded w law m b from stays from_in) (inside m to (both_left _ _ valid)) parts.second whole.second
+      finish m b (value m from) parts.middle whole.middle end 1 3 to stays (result_of b t (value m from) parts.middle 1 3 target made) (omega arith) (value-bounded w law m b from stays from_in) (inside m to (first_so _ _ valid)) parts.second whole.second
 
   -- what is below by less than n is found by a word
   local_place : (limit locals offset : ℕ) → offset < locals → locals ≤ limit → limit < 2 ^ 31 → (limit + below (locals - offset)) % 2 ^ 32 ≡ limit - locals + offset
@@ -231,7 +223,7 @@ module _ (w : Setting) (law : IsSetting w) where
       let target = targets routine to in
       let whole = split w.placing m.top.routine b.pc (items_of routine (Local to offset)) _ end stands in
       let parts = split w.placing m.top.routine b.pc (sum t 8 t (below (routine.locals - offset))) _ whole.middle whole.first in
-      let within : offset < routine.locals = ltb-true offset routine.locals (both_right _ _ valid) in
+      let within : offset < routine.locals = ltb-true offset routine.locals (second_so _ _ valid) in
       let bottom = below_bottom w b.memory (homes_in b) m.top.routine m.limit (m.limit + m.room) m.callers stays.below in
       let top = below_top w b.memory (homes_in b) m.top.routine m.limit (m.limit + m.room) m.callers stays.below in
       let low = law.low_top in
@@ -239,7 +231,7 @@ module _ (w : Setting) (law : IsSetting w) where
       let made = sums w law b m.top.routine t 8 t (below (routine.locals - offset)) parts.middle stays.sound target.some target.small (omega arith) target.some target.small (λ e. target.not_limit (sym e)) (below-bounded (routine.locals - offset)) parts.first in
       let result = result_of b t ((get_or b.registers 8 0 + below (routine.locals - offset)) % 2 ^ 32) parts.middle 1 3 target made in
       let is = ap (λ n. (n + below (routine.locals - offset)) % 2 ^ 32) stays.limit ∙ place in
-      finish m b (m.limit - routine.locals + offset) parts.middle whole.middle end 1 3 to stays (subst (λ v. Result w law b t v parts.middle 1 3) is result) (omega arith) (omega arith) (inside m to (both_left _ _ valid)) parts.second whole.second
+      finish m b (m.limit - routine.locals + offset) parts.middle whole.middle end 1 3 to stays (subst (λ v. Result w law b t v parts.middle 1 3) is result) (omega arith) (omega arith) (inside m to (first_so _ _ valid)) parts.second whole.second
 
   -- two operands are joined
   pub alu_steps : (m : LowState) (b : State) (op : AluOp) (to left right : VirtualRegister) (end : ℕ) → Stays w m b → is_valid_instruction w.low (routine_in w m.top.routine) (Alu op to left right) ≡ true → Stands w.placing m.top.routine b.pc (items_of (routine_in w m.top.routine) (Alu op to left right) ++ code_items (routine_in w m.top.routine) m.top.now) end → Steps w (low_act w.low (placement_of w) (Alu op to left right) m) b 10 []
@@ -253,9 +245,9 @@ module _ (w : Setting) (law : IsSetting w) where
       let i = AluInstr op t p q in
       let whole = split w.placing m.top.routine b.pc (items_of routine (Alu op to left right)) _ end stands in
       let parts = split w.placing m.top.routine b.pc (bring routine 10 left ++ bring routine 11 right) _ whole.middle whole.first in
-      let to_left : (has routine to && has routine left) ≡ true = both_left _ _ valid in
-      let left_in = inside m left (both_right (has routine to) _ to_left) in
-      let right_in = inside m right (both_right (has routine to && has routine left) _ valid) in
+      let to_left : (has routine to && has routine left) ≡ true = first_so _ _ valid in
+      let left_in = inside m left (second_so (has routine to) _ to_left) in
+      let right_in = inside m right (second_so (has routine to && has routine left) _ valid) in
       let two = two_brought m b left right parts.middle stays left_in right_in parts.first in
       let c = placed b two.registers parts.middle in
       let sound_c = sound_placed w law b two.registers parts.middle stays.sound two.size in
@@ -264,7 +256,7 @@ module _ (w : Setting) (law : IsSetting w) where
       let is : alu_value op (register c p) (register c q) ≡ v = ap₂ (alu_value op) (register_is c p two.first_some ∙ two.first_is) (register_is c q two.second_some ∙ two.second_is) in
       let made = becomes w law c i t v sound_c first.0 target.some target.small refl (ap (λ n. advanced (with_register c t n)) is) in
       let result = result_behind b two.registers t v parts.middle (parts.middle + 4) 0 6 target two.others two.walk made in
-      finish m b v (parts.middle + 4) whole.middle end 1 7 to stays result (omega arith) (alu-bounded op (value m left) (value m right) (value-bounded w law m b left stays left_in) (value-bounded w law m b right stays right_in)) (inside m to (both_left _ _ to_left)) first.1 whole.second
+      finish m b v (parts.middle + 4) whole.middle end 1 7 to stays result (omega arith) (alu-bounded op (value m left) (value m right) (value-bounded w law m b left stays left_in) (value-bounded w law m b right stays right_in)) (inside m to (first_so _ _ to_left)) first.1 whole.second
 
   -- what an instruction makes of an operand
   pub computed_steps : (m : LowState) (b : State) (i : Instr) (from to : VirtualRegister) (v at end : ℕ) → Stays w m b → from.0 < (routine_in w m.top.routine).registers → to.0 < (routine_in w m.top.routine).registers → v < 2 ^ 32 → ((c : State) → instr_shows (Some i) c ≡ []) → ((c : State) → Stays w m c → register c (operand (routine_in w m.top.routine) 10 from) ≡ value m from → act i c ≡ advanced (with_register c (operand (routine_in w m.top.routine) 10 to) v)) → Stands w.placing m.top.routine b.pc (computed (routine_in w m.top.routine) from i to) at → Stands w.placing m.top.routine at (code_items (routine_in w m.top.routine) m.top.now) end → Steps w (with_kept to v m) b 7 []
@@ -289,9 +281,9 @@ module _ (w : Setting) (law : IsSetting w) where
       let t = operand routine 10 to in
       let i = ShiftInstr op t (operand routine 10 left) amount in
       let whole = split w.placing m.top.routine b.pc (items_of routine (Shift op to left amount)) _ end stands in
-      let both : (has routine to && has routine left) ≡ true = both_left _ _ valid in
-      let left_in = inside m left (both_right (has routine to) _ both) in
-      computed_steps m b i left to (shift_value op (value m left) amount) whole.middle end stays left_in (inside m to (both_left _ _ both)) (shift-bounded op (value m left) amount (value-bounded w law m b left stays left_in)) (λ c. refl) (λ c stays_c is. ap (λ n. advanced (with_register c t (shift_value op n amount))) is) whole.first whole.second
+      let both : (has routine to && has routine left) ≡ true = first_so _ _ valid in
+      let left_in = inside m left (second_so (has routine to) _ both) in
+      computed_steps m b i left to (shift_value op (value m left) amount) whole.middle end stays left_in (inside m to (first_so _ _ both)) (shift-bounded op (value m left) amount (value-bounded w law m b left stays left_in)) (λ c. refl) (λ c stays_c is. ap (λ n. advanced (with_register c t (shift_value op n amount))) is) whole.first whole.second
 
   imm_word-bounded : (imm : ℤ) → is_imm imm ≡ true → word_from imm < 2 ^ 32
   imm_word-bounded (pos n) is =
@@ -306,10 +298,10 @@ module _ (w : Setting) (law : IsSetting w) where
       let t = operand routine 10 to in
       let i = ImmInstr op t (operand routine 10 left) imm in
       let whole = split w.placing m.top.routine b.pc (items_of routine (AluImm op to left imm)) _ end stands in
-      let both : (has routine to && has routine left) ≡ true = both_left _ _ valid in
-      let left_in = inside m left (both_right (has routine to) _ both) in
-      let imm_small = imm_word-bounded imm (both_right (has routine to && has routine left) _ valid) in
-      computed_steps m b i left to (imm_value op (value m left) (word_from imm)) whole.middle end stays left_in (inside m to (both_left _ _ both)) (imm-bounded op (value m left) (word_from imm) (value-bounded w law m b left stays left_in) imm_small) (λ c. refl) (λ c stays_c is. ap (λ n. advanced (with_register c t (imm_value op n (word_from imm)))) is) whole.first whole.second
+      let both : (has routine to && has routine left) ≡ true = first_so _ _ valid in
+      let left_in = inside m left (second_so (has routine to) _ both) in
+      let imm_small = imm_word-bounded imm (second_so (has routine to && has routine left) _ valid) in
+      computed_steps m b i left to (imm_value op (value m left) (word_from imm)) whole.middle end stays left_in (inside m to (first_so _ _ both)) (imm-bounded op (value m left) (word_from imm) (value-bounded w law m b left stays left_in) imm_small) (λ c. refl) (λ c stays_c is. ap (λ n. advanced (with_register c t (imm_value op n (word_from imm)))) is) whole.first whole.second
 
   pub address_steps : (m : LowState) (b : State) (to : VirtualRegister) (symbol : Symbol) (end : ℕ) → Stays w m b → is_valid_instruction w.low (routine_in w m.top.routine) (Address to symbol) ≡ true → Stands w.placing m.top.routine b.pc (items_of (routine_in w m.top.routine) (Address to symbol) ++ code_items (routine_in w m.top.routine) m.top.now) end → Steps w (low_act w.low (placement_of w) (Address to symbol) m) b 5 []
   unfolding is_valid_instruction address_fits items_of low_act act instr_shows joined
@@ -332,7 +324,7 @@ module _ (w : Setting) (law : IsSetting w) where
         others = λ q other more. added.others q other more ∙ lui.others q other more;
         walk = walk_join b c (placed b added.registers (b.pc + 4 + 4)) 1 1 1 1 [] [] lui.walk added.walk;
       } in
-      finish m b (w.placing.address symbol) (b.pc + 4 + 4) whole.middle end 2 2 to stays (result_of b t (w.placing.address symbol) (b.pc + 4 + 4) 2 2 target joined_) (omega arith) fits (inside m to (both_left _ _ valid)) two.rest whole.second
+      finish m b (w.placing.address symbol) (b.pc + 4 + 4) whole.middle end 2 2 to stays (result_of b t (w.placing.address symbol) (b.pc + 4 + 4) 2 2 target joined_) (omega arith) fits (inside m to (first_so _ _ valid)) two.rest whole.second
 
   -- what lies below the limit is the same in both memories
   same_load : (m : LowState) (b : State) (op : LoadOp) (a : ℕ) → Stays w m b → ((x : ℕ) → a ≤ x → x < a + load_size_of op → x < m.limit) → load_value op b.memory a ≡ load_value op m.memory a
@@ -354,15 +346,15 @@ module _ (w : Setting) (law : IsSetting w) where
       let a = offset_from (value m base) offset in
       let v = load_value op m.memory a in
       let whole = split w.placing m.top.routine b.pc (items_of routine (Load op to base offset)) _ end stands in
-      let both : (has routine to && has routine base) ≡ true = both_left _ _ valid in
-      let base_in = inside m base (both_right (has routine to) _ both) in
-      let within : (x : ℕ) → a ≤ x → x < a + load_size_of op → x < m.limit = λ x from before. (usable_all w.rights.readable m a (load_size_of op) (both_right (nat_eq (a % load_size_of op) 0) _ can) x from before).1 in
+      let both : (has routine to && has routine base) ≡ true = first_so _ _ valid in
+      let base_in = inside m base (second_so (has routine to) _ both) in
+      let within : (x : ℕ) → a ≤ x → x < a + load_size_of op → x < m.limit = λ x from before. (usable_all w.rights.readable m a (load_size_of op) (second_so (nat_eq (a % load_size_of op) 0) _ can) x from before).1 in
       let fits = subst (λ n. n < 2 ^ 32) (same_load m b op a stays within) (load-bounded op b.memory a stays.sound.bytes) in
       let may = access_of w.rights.readable m a (load_size_of op) can in
       let acts : (c : State) → Stays w m c → register c p ≡ value m base → act i c ≡ advanced (with_register c t v) = λ c stays_c is.
       let may_c : can_access c.rights.readable a (load_size_of op) ≡ true = subst (λ rights. can_access rights.readable a (load_size_of op) ≡ true) (sym stays_c.sound.rights) may in
       ap (λ n. load op t (offset_from n offset) c) is
-      ∙ cond_true (can_access c.rights.readable a (load_size_of op)) (advanced (with_register c t (load_value op c.memory a))) (faulted LoadFault c) may_c
+      ∙ cond-true (can_access c.rights.readable a (load_size_of op)) (advanced (with_register c t (load_value op c.memory a))) (faulted LoadFault c) may_c
       ∙ ap (λ n. advanced (with_register c t n)) (same_load m c op a stays_c within) in
-      let done = computed_steps m b i base to v whole.middle end stays base_in (inside m to (both_left _ _ both)) fits (λ c. refl) acts whole.first whole.second in
-      subst (λ s. Steps w s b 7 []) (sym (cond_true (can_access (usable w.rights.readable m) a (load_size_of op)) (with_kept to v m) _ can)) done
+      let done = computed_steps m b i base to v whole.middle end stays base_in (inside m to (first_so _ _ both)) fits (λ c. refl) acts whole.first whole.second in
+      subst (λ s. Steps w s b 7 []) (sym (cond-true (can_access (usable w.rights.readable m) a (load_size_of op)) (with_kept to v m) _ can)) done

@@ -1,5 +1,6 @@
 -- Runs of the instruction machine over code that stands.
 use Rattle.std.proofs.Common.{◌≡◌, ◌≢◌, ℕ, ◌+◌, ◌%◌, ◌^◌, ◌<◌, ◌≤◌, true, false, cond, nat_eq, Some, List, [], ◌∷◌, ◌++◌, length, get_or, set, refl, ap, sym, subst, ◌∙◌, arith}
+use Rattle.std.proofs.lemmas.Bool.{cond-false, cond-true}
 use Rattle.std.proofs.lemmas.Bool.Decides.{nat_tests}
 use Rattle.std.proofs.lemmas.List.{get_or-set_same, get_or-set_other, length-set}
 use Rattle.op_simulation.specs.Path.{Path}
@@ -15,7 +16,6 @@ use Rattle.op_rv.specs.declared.objects.Item.TheVariants.{Plain}
 use Rattle.op_select.specs.Going.{Setting, IsSetting, Sound, IsSafe}
 use Rattle.op_select.specs.Placing.{Placing, Stands, Nothing, First, StandsHere, Expands, past}
 use Rattle.op_select.specs.RiscvMachine.{riscv_machine, riscv_shows, instr_shows}
-use Rattle.op_select.proofs.WordLemmas.{cond_true, cond_false}
 
 -- ---- walks: paths of at least and at most so many steps
 
@@ -63,7 +63,7 @@ pub record Becomes (b : State) (to via value at least most : ℕ) : Type 0 where
 pub register_is : (b : State) (q : ℕ) → q ≢ 0 → register b q ≡ get_or b.registers q 0
 register_is b q some =
     let test : nat_eq q 0 ≡ false = grind (arith, nat_tests) in
-    cond_false (nat_eq q 0) 0 (get_or b.registers q 0) test
+    cond-false (nat_eq q 0) 0 (get_or b.registers q 0) test
 
 -- ---- a step
 
@@ -83,14 +83,14 @@ module _ (w : Setting) (law : IsSetting w) where
   unfolding step step_by_ending running_step performed
   step_is b i sound stands =
       ap (λ e. step_by_ending e b) sound.running
-      ∙ cond_true (can_fetch b) (performed (instr_at (word_at b.memory b.pc)) b) _ (fetches b i sound stands)
+      ∙ cond-true (can_fetch b) (performed (instr_at (word_at b.memory b.pc)) b) _ (fetches b i sound stands)
       ∙ ap (λ o. performed o b) (sound.code b.pc i stands)
 
   pub shows_is : (b : State) (i : Instr) → Sound w b → w.placing.code b.pc ≡ Some i → riscv_shows b.ending b ≡ instr_shows (Some i) b
   unfolding riscv_shows
   shows_is b i sound stands =
       ap (λ e. riscv_shows e b) sound.running
-      ∙ cond_true (can_fetch b) (instr_shows (instr_at (word_at b.memory b.pc)) b) [] (fetches b i sound stands)
+      ∙ cond-true (can_fetch b) (instr_shows (instr_at (word_at b.memory b.pc)) b) [] (fetches b i sound stands)
       ∙ ap (λ o. instr_shows o b) (sound.code b.pc i stands)
 
   pub walk_step : (b c : State) (i : Instr) (events : List Event) → Sound w b → w.placing.code b.pc ≡ Some i → instr_shows (Some i) b ≡ events → act i b ≡ c → Walk b c 1 1 events
@@ -120,7 +120,7 @@ module _ (w : Setting) (law : IsSetting w) where
       let size = sound.size in
       let within : to < length b.registers = omega arith in
       let test : nat_eq to 0 ≡ false = grind (arith, nat_tests) in
-      let registers : cond (nat_eq to 0) b.registers (set b.registers to value) ≡ set b.registers to value = cond_false (nat_eq to 0) b.registers (set b.registers to value) test in
+      let registers : cond (nat_eq to 0) b.registers (set b.registers to value) ≡ set b.registers to value = cond-false (nat_eq to 0) b.registers (set b.registers to value) test in
       let there = acts ∙ ap (λ rs. placed b rs ((b.pc + 4) % 2 ^ 32)) registers ∙ ap (λ n. placed b (set b.registers to value) n) (advanced_pc b i stands) in
       record {
         registers = set b.registers to value;

@@ -1,17 +1,12 @@
 -- The two parts of a word, and sums of addresses.
-use Rattle.std.proofs.Common.{◌≡◌, ℕ, pos, ◌+◌, ◌-◌, ◌*◌, ◌%◌, ◌^◌, ◌-ℤ◌, ◌<◌, Bool, true, false, ◌&&◌, cond, ap, arith}
+use Rattle.std.proofs.Common.{◌≡◌, ℕ, pos, ◌+◌, ◌-◌, ◌*◌, ◌%◌, ◌^◌, ◌-ℤ◌, ◌<◌, true, arith}
+use Rattle.std.proofs.lemmas.Bool.{and_from, cond-false, cond-true}
 use Rattle.std.proofs.lemmas.Int.{ints}
 use Rattle.std.proofs.lemmas.Bool.Decides.{nat_tests}
 use Rattle.op_rv.specs.Operation.{word_from}
 use Rattle.op_select.specs.Sequences.{upper_of, lower_of, is_near}
 
 -- ---- choices
-
-pub cond_true : {X : Type 0} (b : Bool) (x y : X) → b ≡ true → cond b x y ≡ x
-cond_true b x y is = ap (λ b. cond b x y) is
-
-pub cond_false : {X : Type 0} (b : Bool) (x y : X) → b ≡ false → cond b x y ≡ y
-cond_false b x y is = ap (λ b. cond b x y) is
 
 -- ---- the two parts
 
@@ -57,7 +52,3 @@ pub no_distance : (a : ℕ) → a < 2 ^ 32 → (a + word_from (pos 0)) % 2 ^ 32 
 no_distance a small = omega (arith, ints)
 
 -- ---- tests that hold together
-
-pub and_true : (a b : Bool) → a ≡ true → b ≡ true → (a && b) ≡ true
-and_true true b is also = also
-and_true false b is also = absurd cc

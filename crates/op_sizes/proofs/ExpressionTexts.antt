@@ -20,28 +20,28 @@ use Rattle.op_meaning.specs.Expressions.{Here, past, past_whole, Env, Now, ready
 use Rattle.op_meaning.specs.Items.{act, also, enter, Items, none, then_do, ◌&◌, only, acts}
 use Rattle.op_meaning.specs.Paths.{Path, field as part_field}
 use Rattle.op_meaning.specs.Shapes.{Shape, single, composite, of_chars, of_elements, of_instance, shape_of, field_number}
-use Rattle.op_sizes.proofs.TextsKept.{action_text, items_text}
-use Rattle.op_sizes.specs.Literals.{literal_size, expression_literals, root_literals, steps_literals, action_literals, elements_literals, element_literals, arguments_literals, argument_literals}
+use Rattle.op_sizes.proofs.TextsKept.{action_text, items_text, total, total_join}
+use Rattle.op_sizes.specs.Texts.{constant_texts, expression_texts, root_texts, steps_texts, action_texts, elements_texts, element_texts, arguments_texts, argument_texts}
 use Rattle.op_tree.specs.declared.operator.Operator.TheVariants.{Add, In_, Subtract}
 use Rattle.op_tree.specs.declared.operator.Operator.{Operator}
 use Rattle.op_tree.specs.declared.operator.PrefixOperator.TheVariants.{Not, Plus, Minus}
 use Rattle.op_tree.specs.declared.operator.PrefixOperator.{PrefixOperator}
 
-module _ (g : Core) where
+module _ (w : List ℕ → ℕ) (g : Core) where
   -- ---- items
 
-  pub both_text : (a b : Items) → items_text g (a & b) ≡ items_text g a + items_text g b
+  pub both_text : (a b : Items) → items_text w g (a & b) ≡ items_text w g a + items_text w g b
   both_text none b = omega arith
   both_text (then_do i a) b = let e = both_text a b in omega (arith, e)
 
-  pub three_text : (a b c : Items) → items_text g (a & (b & c)) ≡ items_text g a + (items_text g b + items_text g c)
+  pub three_text : (a b c : Items) → items_text w g (a & (b & c)) ≡ items_text w g a + (items_text w g b + items_text w g c)
   three_text a b c = let e = both_text a (b & c) in let f = both_text b c in omega (arith, e, f)
 
   abbrev pub actions_text : List Action → ℕ
   actions_text [] = 0
-  actions_text (a ∷ others) = action_text g a + actions_text others
+  actions_text (a ∷ others) = action_text w g a + actions_text others
 
-  pub acts_text : (actions : List Action) → items_text g (acts actions) ≡ actions_text actions
+  pub acts_text : (actions : List Action) → items_text w g (acts actions) ≡ actions_text actions
   acts_text [] = refl
   acts_text (a ∷ others) = let e = acts_text others in omega (arith, e)
 
@@ -50,12 +50,12 @@ module _ (g : Core) where
   abbrev pub now_text : Now → ℕ
   now_text ready = 0
   now_text (at_path p) = 0
-  now_text (a_text bytes) = length bytes
+  now_text (a_text bytes) = w bytes
 
   abbrev pub found_text : Found → ℕ
-  found_text f = items_text g f.items + now_text f.now
+  found_text f = items_text w g f.items + now_text f.now
 
-  loaded_keeps : (s : Shape) (of : TypeId) (here : Here) (p : Path) → items_text g (loaded s of here p) ≤ 0
+  loaded_keeps : (s : Shape) (of : TypeId) (here : Here) (p : Path) → items_text w g (loaded s of here p) ≤ 0
   loaded_keeps (single kind) of here p = omega arith
   loaded_keeps composite of here p = omega arith
   loaded_keeps of_chars of here p = omega arith
@@ -124,11 +124,11 @@ module _ (g : Core) where
   prefix_keeps Minus checked of t = omega arith
   prefix_keeps Not checked of t = not_keeps (is_boolean of) t
 
-  compared_keeps : (whether : Bool) (o : Operator) (checked : Bool) (t : ℕ) → action_text g (if whether then compare o t t (t + 1) else arithmetic o checked t t (t + 1)) ≤ 0
+  compared_keeps : (whether : Bool) (o : Operator) (checked : Bool) (t : ℕ) → action_text w g (if whether then compare o t t (t + 1) else arithmetic o checked t t (t + 1)) ≤ 0
   compared_keeps true o checked t = omega arith
   compared_keeps false o checked t = omega arith
 
-  on_two_keeps : (o : Operator) (checked : Bool) (of : Option CoreType) (t : ℕ) → action_text g (on_two o checked of t) ≤ 0
+  on_two_keeps : (o : Operator) (checked : Bool) (of : Option CoreType) (t : ℕ) → action_text w g (on_two o checked of t) ≤ 0
   on_two_keeps o checked (Some (Set base)) t = omega arith
   on_two_keeps In_ checked _ t = omega arith
   on_two_keeps o checked _ t = compared_keeps (is_comparison o) o checked t
@@ -151,12 +151,12 @@ module _ (g : Core) where
   field_keeps : (here : Here) (of : TypeId) (k : ℕ) (f : Found) → found_text (then_step of here (part_field of k) 0 f) ≤ found_text f
   field_keeps here of k f = omega arith
 
-  index_keeps : (core : Core) (here : Here) (of : TypeId) (f : Found) (i : Items) (now : Now) → f.now ≡ now → found_text (then_index_by core of here f i now) ≤ found_text f + items_text g i
+  index_keeps : (core : Core) (here : Here) (of : TypeId) (f : Found) (i : Items) (now : Now) → f.now ≡ now → found_text (then_index_by core of here f i now) ≤ found_text f + items_text w g i
   index_keeps core here of f i (a_text bytes) e = let all = three_text f.items i (only (act (pick here.temp bytes here.temp))) in let now = ap now_text e in omega (arith, all, now)
   index_keeps core here of f i ready e = let all = both_text f.items i in omega (arith, all)
   index_keeps core here of f i (at_path path) e = let all = both_text f.items i in omega (arith, all)
 
-  looked_keeps : (now : Now) → items_text g (looked_at now) ≤ now_text now
+  looked_keeps : (now : Now) → items_text w g (looked_at now) ≤ now_text now
   looked_keeps ready = omega arith
   looked_keeps (a_text bytes) = omega arith
   looked_keeps (at_path p) = omega arith
@@ -172,14 +172,14 @@ module _ (g : Core) where
       let all = three_text f.items (looked_at f.now) (only (act (constant here.temp k))) in
       omega (arith, l, all)
 
-  two_keeps : (goes : Option Bool) (o : Operator) (checked : Bool) (of : Option CoreType) (here : Here) (f : Found) (second : Items) → found_text (two_by goes o checked of here f second) ≤ found_text f + items_text g second
+  two_keeps : (goes : Option Bool) (o : Operator) (checked : Bool) (of : Option CoreType) (here : Here) (f : Found) (second : Items) → found_text (two_by goes o checked of here f second) ≤ found_text f + items_text w g second
   two_keeps None o checked of here f second =
       let a = on_two_keeps o checked of here.temp in
       let all = three_text f.items second (only (act (on_two o checked of here.temp))) in
       omega (arith, a, all)
   two_keeps (Some truth) o checked of here f second = let all = both_text f.items (only (also truth here.temp second)) in omega (arith, all)
 
-  constant_keeps : (c : Const) (t : ℕ) → found_text (of_constant c t) ≤ literal_size c
+  constant_keeps : (c : Const) (t : ℕ) → found_text (of_constant c t) ≤ total w (constant_texts c)
   constant_keeps (Ordinal k) t = omega arith
   constant_keeps (SetOf es) t = omega arith
   constant_keeps (Text bytes) t = omega arith
@@ -187,24 +187,27 @@ module _ (g : Core) where
 
   -- ---- expressions
 
-  second_keeps : (env : Env) (here : Here) (goes : Option Bool) (e : Expression) (n : ℕ) → items_text g (make env (past 1 here) e).items ≤ n → items_text g (make env here e).items ≤ n → items_text g (make env (second_here goes here) e).items ≤ n
+  second_keeps : (env : Env) (here : Here) (goes : Option Bool) (e : Expression) (n : ℕ) → items_text w g (make env (past 1 here) e).items ≤ n → items_text w g (make env here e).items ≤ n → items_text w g (make env (second_here goes here) e).items ≤ n
   second_keeps env here None e n a b = a
   second_keeps env here (Some truth) e n a b = b
 
   mutual
-    pub find_keeps : (env : Env) (here : Here) (e : Expression) → IsCounted e → found_text (find env here e) ≤ expression_literals e
+    pub find_keeps : (env : Env) (here : Here) (e : Expression) → IsCounted e → found_text (find env here e) ≤ total w (expression_texts e)
     find_keeps env here (expression root of others) c =
         let r = root_keeps env here of root c.0 in
-        steps_keeps env here of others (root_literals root) (find_root env here of root) c.1 r
+        let s = steps_keeps env here of others (total w (root_texts root)) (find_root env here of root) c.1 r in
+        let j = total_join w (root_texts root) (steps_texts others) in
+        omega (arith, s, j)
 
-    pub make_keeps : (env : Env) (here : Here) (e : Expression) → IsCounted e → found_text (make env here e) ≤ expression_literals e
+    pub make_keeps : (env : Env) (here : Here) (e : Expression) → IsCounted e → found_text (make env here e) ≤ total w (expression_texts e)
     make_keeps env here (expression root of others) c =
         let r = root_keeps env here of root c.0 in
-        let s = steps_keeps env here of others (root_literals root) (find_root env here of root) c.1 r in
+        let s = steps_keeps env here of others (total w (root_texts root)) (find_root env here of root) c.1 r in
         let o = own_keeps env (type_after of others) here (find_steps env here of others (find_root env here of root)) in
-        omega (arith, s, o)
+        let j = total_join w (root_texts root) (steps_texts others) in
+        omega (arith, s, o, j)
 
-    root_keeps : (env : Env) (here : Here) (of : TypeId) (root : Start) → IsCountedRoot root → found_text (find_root env here of root) ≤ root_literals root
+    root_keeps : (env : Env) (here : Here) (of : TypeId) (root : Start) → IsCountedRoot root → found_text (find_root env here of root) ≤ total w (root_texts root)
     root_keeps env here of (fixed v nodes words) c = constant_keeps v here.temp
     root_keeps env here of (variable id) c = omega arith
     root_keeps env here of (object id) c = absurd c
@@ -218,14 +221,15 @@ module _ (g : Core) where
     root_keeps env here of eof c = omega arith
     root_keeps env here of eoln c = omega arith
 
-    steps_keeps : (env : Env) (here : Here) (of : TypeId) (ss : Steps) (n : ℕ) (f : Found) → AreCountedSteps ss → found_text f ≤ n → found_text (find_steps env here of ss f) ≤ n + steps_literals ss
+    steps_keeps : (env : Env) (here : Here) (of : TypeId) (ss : Steps) (n : ℕ) (f : Found) → AreCountedSteps ss → found_text f ≤ n → found_text (find_steps env here of ss f) ≤ n + total w (steps_texts ss)
     steps_keeps env here of no_steps n f c less = omega (arith, less)
     steps_keeps env here of (steps action next others) n f c less =
         let g = step_keeps env here of action next n f c.0 less in
-        let rest = steps_keeps env here next others (n + action_literals action) (find_step env here of action next f) c.1 g in
-        omega (arith, rest)
+        let rest = steps_keeps env here next others (n + total w (action_texts action)) (find_step env here of action next f) c.1 g in
+        let j = total_join w (action_texts action) (steps_texts others) in
+        omega (arith, rest, j)
 
-    step_keeps : (env : Env) (here : Here) (of : TypeId) (action : Doing) (to : TypeId) (n : ℕ) (f : Found) → IsCountedAction action → found_text f ≤ n → found_text (find_step env here of action to f) ≤ n + action_literals action
+    step_keeps : (env : Env) (here : Here) (of : TypeId) (action : Doing) (to : TypeId) (n : ℕ) (f : Found) → IsCountedAction action → found_text f ≤ n → found_text (find_step env here of action to f) ≤ n + total w (action_texts action)
     step_keeps env here of (convert k origin) to n f c less =
         let o = own_keeps env of here f in
         let a = converted_keeps env.core k to here.temp in
@@ -247,7 +251,7 @@ module _ (g : Core) where
         let behind = make_keeps env (past 1 here) e c in
         let instead = make_keeps env here e c in
         let goes = goes_on_at o (type_at env.core of) in
-        let second = second_keeps env here goes e (expression_literals e) (omega (arith, behind)) (omega (arith, instead)) in
+        let second = second_keeps env here goes e (total w (expression_texts e)) (omega (arith, behind)) (omega (arith, instead)) in
         let t = two_keeps goes o checked (type_at env.core of) here (own env of here f) (make env (second_here goes here) e).items in
         omega (arith, g, second, t, less)
     step_keeps env here of (apply function checked) to n f c less =
@@ -257,15 +261,16 @@ module _ (g : Core) where
     step_keeps env here of (is class) to n f c less = omega (arith, less)
     step_keeps env here of (copied e e') to n f c less = omega (arith, less)
 
-    gather_keeps : (env : Env) (here : Here) (es : Elements) → AreCountedElements es → items_text g (gather env here es) ≤ elements_literals es
+    gather_keeps : (env : Env) (here : Here) (es : Elements) → AreCountedElements es → items_text w g (gather env here es) ≤ total w (elements_texts es)
     gather_keeps env here no_elements c = omega arith
     gather_keeps env here (elements e es) c =
         let first = member_keeps env here e c.0 in
         let rest = gather_keeps env here es c.1 in
         let all = both_text (gather_one env here e) (then_do (act (combine Add here.temp here.temp (here.temp + 1))) (gather env here es)) in
-        omega (arith, first, rest, all)
+        let j = total_join w (element_texts e) (elements_texts es) in
+        omega (arith, first, rest, all, j)
 
-    member_keeps : (env : Env) (here : Here) (m : Member) → IsCountedElement m → items_text g (gather_one env here m) ≤ element_literals m
+    member_keeps : (env : Env) (here : Here) (m : Member) → IsCountedElement m → items_text w g (gather_one env here m) ≤ total w (element_texts m)
     member_keeps env here (one e) c =
         let i = make_keeps env (past 1 here) e c in
         let all = both_text (make env (past 1 here) e).items (only (act (lone (here.temp + 1) (here.temp + 1)))) in
@@ -274,9 +279,10 @@ module _ (g : Core) where
         let i = make_keeps env (past 1 here) e c.0 in
         let j = make_keeps env (past 2 here) e' c.1 in
         let all = three_text (make env (past 1 here) e).items (make env (past 2 here) e').items (only (act (span (here.temp + 1) (here.temp + 1) (here.temp + 2)))) in
-        omega (arith, i, j, all)
+        let both = total_join w (expression_texts e) (expression_texts e') in
+        omega (arith, i, j, all, both)
 
-    pass_keeps : (env : Env) (here : Here) (as' : Arguments) → AreCountedArguments as' → items_text g (pass env here as').items ≤ arguments_literals as'
+    pass_keeps : (env : Env) (here : Here) (as' : Arguments) → AreCountedArguments as' → items_text w g (pass env here as').items ≤ total w (arguments_texts as')
     pass_keeps env here no_arguments c = omega arith
     pass_keeps env here (arguments a others) c =
         let first = pass_one env here a in
@@ -284,9 +290,10 @@ module _ (g : Core) where
         let f = one_keeps env here a c.0 in
         let r = pass_keeps env (past first.used (past_whole here)) others c.1 in
         let all = both_text first.items rest.items in
-        omega (arith, f, r, all)
+        let j = total_join w (argument_texts a) (arguments_texts others) in
+        omega (arith, f, r, all, j)
 
-    one_keeps : (env : Env) (here : Here) (a : Argument) → IsCountedArgument a → items_text g (pass_one env here a).items ≤ argument_literals a
+    one_keeps : (env : Env) (here : Here) (a : Argument) → IsCountedArgument a → items_text w g (pass_one env here a).items ≤ total w (argument_texts a)
     one_keeps env here (value e) c = let i = make_keeps env here e c in omega (arith, i)
     one_keeps env here (place e) c = let i = find_keeps env here e c in omega (arith, i)
     one_keeps env here (array e) c = let i = find_keeps env here e c in omega (arith, i)

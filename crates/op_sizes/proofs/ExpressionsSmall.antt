@@ -1,5 +1,6 @@
 -- The items of an expression come to no more code than its nodes allow, with room for what takes its value from its place.
-use Rattle.std.proofs.Common.{◌≡◌, ◌≤◌, ℕ, ℤ, pos, negsuc, ◌+◌, ◌*◌, Bool, true, false, List, [], ◌∷◌, ◌++◌, length, Option, Some, None, slice_get, refl, ap, arith, length-append, if◌then◌else◌}
+use Rattle.std.proofs.Common.{◌≡◌, ◌≤◌, ℕ, ℤ, pos, negsuc, ◌+◌, ◌*◌, Bool, true, false, List, [], ◌∷◌, length, Option, Some, None, slice_get, refl, ap, arith, if◌then◌else◌}
+use Rattle.std.proofs.lemmas.List.{length_push}
 use Rattle.op_core.specs.Expression.{Expression, expression, Root as Start, constant as fixed, variable, object, call, construct as constructed, set as bracketed, eof, eoln, Steps, no_steps, steps, Action as Doing, convert, bracket, field, index, method, prefixed, operate, is, apply, copy as copied, Elements, no_elements, elements, Element as Member, one, range, Arguments, no_arguments, arguments, Argument, value, place, array, listed}
 use Rattle.op_core.specs.Sizes.{type_at}
 use Rattle.op_core.specs.Typing.{type_of, type_after}
@@ -15,9 +16,10 @@ use Rattle.op_core.specs.declared.program.Core.{Core}
 use Rattle.op_core.specs.declared.types.CoreType.{CoreType}
 use Rattle.op_core.specs.declared.types.CoreType.TheVariants.{Integer, Boolean, Char, String, Nil, Nothing, EmptySet, Enumeration, Subrange, Set, Record, Array, DynamicArray, OpenArray, Class, Interface, Broken}
 use Rattle.op_core.specs.declared.types.IntegerKind.TheVariants.{Signed32}
+use Rattle.op_frames.proofs.ExpressionsWithin.{listed_node, valued_node}
 use Rattle.op_frames.specs.Counted.{IsCounted, IsCountedRoot, AreCountedSteps, IsCountedAction, AreCountedElements, IsCountedElement, AreCountedArguments, IsCountedArgument}
 use Rattle.op_meaning.specs.Actions.{Action, constant, arithmetic, compare, complement, invert, pick, single as lone, span, combine}
-use Rattle.op_meaning.specs.Charge.{nodes_of, valued, expression_weight, root_weight, steps_weight, action_weight, elements_weight, element_weight, arguments_weight, argument_weight, count_of, listed_values}
+use Rattle.op_meaning.specs.Charge.{nodes_of, expression_weight, root_weight, steps_weight, action_weight, elements_weight, element_weight, arguments_weight, argument_weight, count_of}
 use Rattle.op_meaning.specs.Expressions.{Here, past, past_whole, Env, Now, ready, at_path, a_text, Found, path_of, loaded, own_by, own, then_acts, then_step, element_step, then_index_by, is_comparison, on_two, goes_on_at, second_here, two_by, is_boolean, prefix, converted_by, converted, moved, applied, measured, looked_at, applied_by, of_constant, receiver_by, receiver_of, result_of, given_by, find, make, find_root, find_steps, find_step, gather, gather_one, pass, pass_one}
 use Rattle.op_meaning.specs.Items.{act, also, enter, Items, none, then_do, ◌&◌, only, acts}
 use Rattle.op_meaning.specs.Paths.{Path, field as part_field}
@@ -154,25 +156,22 @@ applied_small core _ checked of t = omega arith
 
 -- ---- single steps
 
-one_more : {A : Type 0} (xs : List A) (x : A) → length (xs ++ x ∷ []) ≡ length xs + 1
-one_more xs x = length-append xs (x ∷ [])
-
 field_small : (here : Here) (of : TypeId) (k : ℕ) (f : Found) → found_size (then_step of here (part_field of k) 0 f) ≤ found_size f + 38
 field_small here of k f =
     let p = path_small of here f.now in
-    let longer = one_more (path_of of here f.now).steps (part_field of k) in
+    let longer = length_push (path_of of here f.now).steps (part_field of k) in
     omega (arith, p, longer)
 
 index_small : (core : Core) (here : Here) (of : TypeId) (f : Found) (i : Items) (now : Now) → found_size (then_index_by core of here f i now) ≤ found_size f + items_size i + 38
 index_small core here of f i (a_text bytes) = let all = three_size f.items i (only (act (pick here.temp bytes here.temp))) in omega (arith, all)
 index_small core here of f i ready =
     let p = path_small of here f.now in
-    let longer = one_more (path_of of here f.now).steps (element_step core of (here.temp + f.used)) in
+    let longer = length_push (path_of of here f.now).steps (element_step core of (here.temp + f.used)) in
     let all = both_size f.items i in
     omega (arith, p, longer, all)
 index_small core here of f i (at_path path) =
     let p = path_small of here f.now in
-    let longer = one_more (path_of of here f.now).steps (element_step core of (here.temp + f.used)) in
+    let longer = length_push (path_of of here f.now).steps (element_step core of (here.temp + f.used)) in
     let all = both_size f.items i in
     omega (arith, p, longer, all)
 
@@ -226,14 +225,6 @@ receiver_small core None here = omega arith
 receiver_small core (Some of) here = receiver_shape (shape_of core of) of here
 
 -- ---- nodes
-
-valued_node : (core : Core) (of : TypeId) → nodes_of (valued core of) ≡ 1
-unfolding valued
-valued_node core of = refl
-
-listed_node : (core : Core) (of : TypeId) (n : ℕ) → nodes_of (listed_values core of n) ≡ 1
-unfolding listed_values
-listed_node core of n = refl
 
 -- ---- expressions
 

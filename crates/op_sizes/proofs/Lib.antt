@@ -13,3 +13,4 @@ pub mod RoutinesSmall
 pub mod StatementsSmall
 pub mod StatementTexts
 pub mod TextsKept
+pub mod TextsOnce

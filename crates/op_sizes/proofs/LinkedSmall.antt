@@ -1,15 +1,15 @@
 -- What is linked is no larger than its parts are in their longest forms.
 use Rattle.std.proofs.Common.{◌≤◌, ℕ, suc, ◌+◌, List, [], ◌∷◌, arith}
 use Rattle.op_layout.specs.declared.layout.Layout.{Layout}
+use Rattle.op_link.proofs.Growth.{branch_at_most, jump_at_most}
 use Rattle.op_link.specs.Linking.{linked_size, linked_size_by, settled, sizes_of}
 use Rattle.op_link.specs.Memory.{constants_size, initial_size}
 use Rattle.op_link.specs.Placing.{behind, behind_blocks, behind_items, behind_routine, behind_routines, first_spot, placement_by}
-use Rattle.op_link.specs.Reach.{branch_size, jump_size, reach_of, size_of}
+use Rattle.op_link.specs.Reach.{reach_of, size_of}
 use Rattle.op_link.specs.declared.memory_map.Settings.{Settings}
 use Rattle.op_link.specs.declared.place.RoutinePlace.{RoutinePlace}
 use Rattle.op_link.specs.declared.place.Spot.{Spot}
 use Rattle.op_link.specs.declared.reach.Reach.{Reach}
-use Rattle.op_link.specs.declared.reach.Reach.TheVariants.{ByRegister, Direct, OverJump}
 use Rattle.op_rv.specs.declared.objects.Item.TheVariants.{Address, Branch, Call, CallAt, Jump, Plain}
 use Rattle.op_rv.specs.declared.objects.Item.{Item}
 use Rattle.op_rv.specs.declared.objects.ObjectBlock.{ObjectBlock}
@@ -21,23 +21,13 @@ abbrev pub routines_bytes : List ObjectRoutine → ℕ
 routines_bytes [] = 0
 routines_bytes (x ∷ xs) = routine_bytes x + routines_bytes xs
 
-branch_less : (reach : Reach) → branch_size reach ≤ 12
-branch_less Direct = omega arith
-branch_less OverJump = omega arith
-branch_less ByRegister = omega arith
-
-jump_less : (reach : Reach) → jump_size reach ≤ 8
-jump_less Direct = omega arith
-jump_less OverJump = omega arith
-jump_less ByRegister = omega arith
-
 size_less : (reach : Reach) (item : Item) → size_of reach item ≤ item_bytes item
 unfolding size_of
 size_less reach (Plain i) = omega arith
 size_less reach (Address rd symbol) = omega arith
-size_less reach (Branch op left right block) = branch_less reach
-size_less reach (Jump block) = jump_less reach
-size_less reach (Call routine landing) = jump_less reach
+size_less reach (Branch op left right block) = branch_at_most reach
+size_less reach (Jump block) = jump_at_most reach
+size_less reach (Call routine landing) = jump_at_most reach
 size_less reach (CallAt landing) = omega arith
 
 module _ (known : List RoutinePlace) where

@@ -4,17 +4,18 @@ use Rattle.std.proofs.lemmas.Bool.Decides.{nat_tests}
 use Rattle.op_compute.specs.Bank.{error_block_of, register_of, scratch_of, work_of}
 use Rattle.op_compute.specs.Ranges.{distance_code, distance_register, sum_with}
 use Rattle.op_compute.specs.declared.bank.RuntimeError.TheVariants.{RangeCheck}
-use Rattle.op_constants.specs.FirstBytes.{first_number}
+use Rattle.op_constants.specs.FirstBytes.{are_zeros, first_bytes, first_number}
 use Rattle.op_constants.specs.Literals.{first_of_row}
 use Rattle.op_constants.specs.Offsets.{element_size, size_in}
 use Rattle.op_constants.specs.Shapes.{is_composite}
+use Rattle.op_constants.specs.Texts.{number_of}
 use Rattle.op_core.specs.declared.ids.TypeId.{TypeId}
 use Rattle.op_core.specs.declared.program.Core.{Core}
 use Rattle.op_core.specs.declared.types.IntegerKind.{IntegerKind}
 use Rattle.op_core.specs.declared.types.IntegerKind.TheVariants.{Signed8, Unsigned8, Signed16, Unsigned16, Signed32}
 use Rattle.op_expand.specs.Calls.{call_code, charge_of, charging_code, given_code, given_spot, givens_code, givens_in, left, number_code, parts_code, receiver_code, receiver_of, receiver_spot, result_address, return_code, runtime, value_code, has_closing, closing_call}
-use Rattle.op_expand.specs.Homes.{parameter}
-use Rattle.op_expand.specs.Moves.{action_code, begun_by, begun_code, by_words, bytes_code, copy_code, copy_number, held, is_short, limit_of, load_code, load_op, near, number_begun, parts_begun, row_of, store_code, store_op, taken_code, unit_code, units_code, units_in, writing_code}
+use Rattle.op_expand.specs.Homes.{parameter, rounded}
+use Rattle.op_expand.specs.Moves.{action_code, begun_by, begun_code, composite_begun, zeros_begun, by_words, bytes_code, copy_code, copy_number, held, is_short, limit_of, load_code, load_op, near, number_begun, parts_begun, row_of, store_code, store_op, taken_code, unit_code, units_code, units_in, writing_code}
 use Rattle.op_expand.specs.Places.{after, at_register, behind_code, element_code, home_code, home_of, home_spot, index_code, place_code, place_of, power_of, reach_code, scale_code, scaled, step_code, step_spot, steps_code, steps_spot}
 use Rattle.op_expand.specs.Routines.{instruction_code}
 use Rattle.op_expand.specs.declared.frame.Frame.{Frame}
@@ -46,7 +47,7 @@ use Rattle.op_mir.specs.declared.path.Root.{Root}
 use Rattle.op_mir.specs.declared.path.Root.TheVariants.{Local}
 use Rattle.op_mir.specs.declared.path.Step.{Step}
 use Rattle.op_mir.specs.declared.path.Step.TheVariants.{Field, Element}
-use Rattle.op_rt_text.specs.Names.{call, register, take_number}
+use Rattle.op_rt_text.specs.Names.{call, clear_number, register, take_number}
 use Rattle.op_rv.specs.Operation.{word_from}
 use Rattle.op_rv.specs.declared.instruction.AluOp.TheVariants.{Add, Mul}
 use Rattle.op_rv.specs.declared.instruction.BranchOp.TheVariants.{Bltu}
@@ -195,13 +196,28 @@ module _ (core : Core) (frame : Frame) where
   unfolding number_begun
   number_begun_small kind n v = let s = store_small kind (scratch_of frame.bank 0) (Local v) [] (scratch_of frame.bank 1) in omega (arith, s)
 
-  begun_small : (id : ℕ) (v : LocalId) → code_weight (begun_code core frame id v) ≤ 9
+  zeros_small : (size : ℕ) (v : LocalId) → code_weight (zeros_begun core frame size v) ≤ 9
+  unfolding zeros_begun
+  zeros_small size v =
+      let place = place_of core frame 0 (Local v) [] (scratch_of frame.bank 0) in
+      let front = place_code core frame 0 (Local v) [] (scratch_of frame.bank 0) in
+      let rest = Const frame.spare (rounded size) ∷ call clear_number (place.base ∷ frame.spare ∷ []) frame.spare ∷ [] in
+      let p = place_small 0 (Local v) [] (scratch_of frame.bank 0) in
+      let all = join front rest in
+      either (nat_eq size 0) (Const frame.spare 0 ∷ []) (front ++ rest) 9 (omega arith) (omega (arith, p, all))
+
+  composite_small : (texts : List (List ℕ)) (size : ℕ) (bytes : List ℕ) (v : LocalId) → code_weight (composite_begun core frame texts size bytes v) ≤ 9
+  composite_small texts size bytes v =
+      let t = taken_small frame.spare size v in
+      either (are_zeros bytes) (zeros_begun core frame size v) (parts_begun core frame size (number_of texts bytes) v) 9 (zeros_small size v) (omega (arith, t))
+
+  begun_small : (texts : List (List ℕ)) (v : LocalId) → code_weight (begun_code core frame texts v) ≤ 9
   unfolding begun_by
-  begun_small id v =
+  begun_small texts v =
       let row = row_of core frame v in
       let of = type_of_row row in
-      let t = taken_small frame.spare (size_in core of) v in
-      either (is_composite (shape_of core of)) (parts_begun core frame (size_in core of) id v) (number_begun core frame (kind_of core of) (first_number (first_of_row row)) v) 9 (omega (arith, t)) (number_begun_small (kind_of core of) (first_number (first_of_row row)) v)
+      let bytes = first_bytes core of (first_of_row row) in
+      either (is_composite (shape_of core of)) (composite_begun core frame texts (size_in core of) bytes v) (number_begun core frame (kind_of core of) (first_number (first_of_row row)) v) 9 (composite_small texts (size_in core of) bytes v) (number_begun_small (kind_of core of) (first_number (first_of_row row)) v)
 
   -- ---- actions
 
@@ -210,22 +226,22 @@ module _ (core : Core) (frame : Frame) where
   writing_small (Truth from width) = omega arith
   writing_small (Char from width) = omega arith
 
-  action_small : (r id : ℕ) (a : Action) → code_weight (action_code core frame id a) ≤ action_size (view_action core r a)
-  action_small r id (Constant to n) = constant_small (register_of frame.bank to) n
-  action_small r id (Load to kind from) = let e = load_small kind (register_of frame.bank to) from.root from.steps (scratch_of frame.bank 0) in omega (arith, e)
-  action_small r id (Store to kind from) = let e = store_small kind (register_of frame.bank from) to.root to.steps (scratch_of frame.bank 0) in omega (arith, e)
-  action_small r id (Copy of to from) = copy_small of to from
-  action_small r id (Look at) =
+  action_small : (r : ℕ) (texts : List (List ℕ)) (a : Action) → code_weight (action_code core frame texts a) ≤ action_size (view_action core r a)
+  action_small r texts (Constant to n) = constant_small (register_of frame.bank to) n
+  action_small r texts (Load to kind from) = let e = load_small kind (register_of frame.bank to) from.root from.steps (scratch_of frame.bank 0) in omega (arith, e)
+  action_small r texts (Store to kind from) = let e = store_small kind (register_of frame.bank from) to.root to.steps (scratch_of frame.bank 0) in omega (arith, e)
+  action_small r texts (Copy of to from) = copy_small of to from
+  action_small r texts (Look at) =
       let p = place_small near at.root at.steps (scratch_of frame.bank 0) in
       let all = join (place_code core frame near at.root at.steps (scratch_of frame.bank 0)) (Const (scratch_of frame.bank 0) 0 ∷ []) in
       omega (arith, p, all)
-  action_small r id (BeginWith v) = begun_small id v
-  action_small r id (Pick to text index) = omega arith
-  action_small r id (Compute c) = computation_small frame.bank c
-  action_small r id (Write (Number from width)) = omega arith
-  action_small r id (Write (Truth from width)) = omega arith
-  action_small r id (Write (Char from width)) = omega arith
-  action_small r id (WriteText text width) = omega arith
+  action_small r texts (BeginWith v) = begun_small texts v
+  action_small r texts (Pick to text index) = omega arith
+  action_small r texts (Compute c) = computation_small frame.bank c
+  action_small r texts (Write (Number from width)) = omega arith
+  action_small r texts (Write (Truth from width)) = omega arith
+  action_small r texts (Write (Char from width)) = omega arith
+  action_small r texts (WriteText text width) = omega arith
 
   -- ---- calls
 
@@ -304,14 +320,14 @@ module _ (core : Core) (frame : Frame) where
 
   -- ---- instructions
 
-  pub instruction_small : (mir : Mir) (r id : ℕ) (i : Instruction) → code_weight (instruction_code core mir frame id i) ≤ instruction_size (view_instruction core r i)
-  instruction_small mir r id (Act action landing) = action_small r id action
-  instruction_small mir r id (CallOf f operands) = call_small mir f.0 operands
-  instruction_small mir r id (Jump block) = omega arith
-  instruction_small mir r id (When t block) = true_small (work_of frame.bank) (register_of frame.bank t) block
-  instruction_small mir r id (Unless t block) = false_small (work_of frame.bank) (register_of frame.bank t) block
-  instruction_small mir r id (Switch t arms) = switch_small (work_of frame.bank) (register_of frame.bank t) arms
-  instruction_small mir r id (Dispatch t block) = dispatch_small (work_of frame.bank) (register_of frame.bank t) block
-  instruction_small mir r id (MakeDue f) = omega arith
-  instruction_small mir r id (Stop t) = either (has_closing core) (closing_call core (register_of frame.bank t) ∷ []) (Move left (register_of frame.bank t) ∷ Exit left ∷ []) 3 (omega arith) (omega arith)
-  instruction_small mir r id Return = return_small frame.returning
+  pub instruction_small : (mir : Mir) (r : ℕ) (texts : List (List ℕ)) (i : Instruction) → code_weight (instruction_code core mir frame texts i) ≤ instruction_size (view_instruction core r i)
+  instruction_small mir r texts (Act action landing) = action_small r texts action
+  instruction_small mir r texts (CallOf f operands) = call_small mir f.0 operands
+  instruction_small mir r texts (Jump block) = omega arith
+  instruction_small mir r texts (When t block) = true_small (work_of frame.bank) (register_of frame.bank t) block
+  instruction_small mir r texts (Unless t block) = false_small (work_of frame.bank) (register_of frame.bank t) block
+  instruction_small mir r texts (Switch t arms) = switch_small (work_of frame.bank) (register_of frame.bank t) arms
+  instruction_small mir r texts (Dispatch t block) = dispatch_small (work_of frame.bank) (register_of frame.bank t) block
+  instruction_small mir r texts (MakeDue f) = omega arith
+  instruction_small mir r texts (Stop t) = either (has_closing core) (closing_call core (register_of frame.bank t) ∷ []) (Move left (register_of frame.bank t) ∷ Exit left ∷ []) 3 (omega arith) (omega arith)
+  instruction_small mir r texts Return = return_small frame.returning

@@ -3,7 +3,6 @@ use Rattle.std.proofs.Common.{◌≡◌, ◌≤◌, ℕ, zero, suc, ◌+◌, ◌
 use Rattle.std.proofs.lemmas.List.Concat.{flat_map-cons}
 use Rattle.std.proofs.lemmas.List.{length-take}
 use Rattle.std.specs.List.{flat_map}
-use Rattle.op_constants.specs.Literals.{literals_in}
 use Rattle.op_constants.specs.Offsets.{size_in}
 use Rattle.op_constants.specs.Shapes.{is_composite}
 use Rattle.op_core.specs.Initial.{FirstValue}
@@ -16,12 +15,13 @@ use Rattle.op_core.specs.declared.routine.Routine.{Routine as Row}
 use Rattle.op_core.specs.declared.routine.Variable.{Variable}
 use Rattle.op_expand.specs.Frames.{frame_of, parameters_of}
 use Rattle.op_expand.specs.Homes.{home_at, parameter}
-use Rattle.op_expand.specs.Routines.{all_blocks, all_received, beginning, behind_code, blocks_of as low_blocks, code_of, error_blocks, instruction_code, low_routine, most_charge, received, received_number}
+use Rattle.op_expand.specs.Routines.{all_blocks, all_received, beginning, blocks_of as low_blocks, code_of, error_blocks, instruction_code, low_routine, most_charge, received, received_number}
 use Rattle.op_expand.specs.declared.frame.Frame.{Frame}
 use Rattle.op_expand.specs.declared.frame.Returning.{Returning}
 use Rattle.op_expand.specs.declared.frame.Returning.TheVariants.{Ending, Nothing, Result}
 use Rattle.op_expand.specs.declared.homes.Home.{Home}
 use Rattle.op_expand.specs.declared.homes.Home.TheVariants.{Held, Stored, Shared}
+use Rattle.op_frames.proofs.MadeLemmas.{every_append}
 use Rattle.op_frames.specs.Counted.{AreCountedStatements}
 use Rattle.op_frames.specs.Made.{Every}
 use Rattle.op_low.specs.declared.code.Block.{Block as LowBlock}
@@ -57,20 +57,20 @@ use Rattle.op_sizes.specs.Written.{AreWrittenStatements}
 -- ---- low code of managed code
 
 module _ (core : Core) (mir : Mir) (frame : Frame) (r : ℕ) where
-  code_light : (id : ℕ) (code : List Instruction) → code_weight (code_of core mir frame r id code) ≤ code_size (map (view_instruction core r) code)
-  code_light id [] = omega arith
-  code_light id (i ∷ is) =
-      let first = instruction_small core frame mir r id i in
-      let rest = code_light (id + literals_in core r i) is in
-      let all = join (instruction_code core mir frame id i) (code_of core mir frame r (id + literals_in core r i) is) in
+  code_light : (texts : List (List ℕ)) (code : List Instruction) → code_weight (code_of core mir frame texts code) ≤ code_size (map (view_instruction core r) code)
+  code_light texts [] = omega arith
+  code_light texts (i ∷ is) =
+      let first = instruction_small core frame mir r texts i in
+      let rest = code_light texts is in
+      let all = join (instruction_code core mir frame texts i) (code_of core mir frame texts is) in
       omega (arith, first, rest, all)
 
-  blocks_light : (id : ℕ) (front : List LowInstruction) (bs : List Block) → blocks_weight (low_blocks core mir frame r id front bs) ≤ code_weight front + blocks_size (map (view_block core r) bs)
-  blocks_light id front [] = omega arith
-  blocks_light id front (b ∷ bs) =
-      let first = code_light id b.code in
-      let rest = blocks_light (behind_code core r id b.code) [] bs in
-      let all = join front (code_of core mir frame r id b.code) in
+  blocks_light : (texts : List (List ℕ)) (front : List LowInstruction) (bs : List Block) → blocks_weight (low_blocks core mir frame texts front bs) ≤ code_weight front + blocks_size (map (view_block core r) bs)
+  blocks_light texts front [] = omega arith
+  blocks_light texts front (b ∷ bs) =
+      let first = code_light texts b.code in
+      let rest = blocks_light texts [] bs in
+      let all = join front (code_of core mir frame texts b.code) in
       omega (arith, first, rest, all)
 
 pub low_join : (a b : List LowBlock) → blocks_weight (a ++ b) ≡ blocks_weight a + blocks_weight b
@@ -78,10 +78,10 @@ low_join [] b = omega arith
 low_join (x ∷ a) b = let e = low_join a b in omega (arith, e)
 
 -- a routine that is charged more than any stack has is one block of an error
-low_light : (core : Core) (mir : Mir) (r id : ℕ) (routine : Routine) (n : ℕ) → 5 ≤ n → blocks_weight (all_blocks core mir r id routine) ≤ n → blocks_weight (low_routine core mir r id routine).blocks ≤ n
-low_light core mir r id routine n some less = by (nat_lt most_charge routine.charge) refl
+low_light : (core : Core) (mir : Mir) (r : ℕ) (texts : List (List ℕ)) (routine : Routine) (n : ℕ) → 5 ≤ n → blocks_weight (all_blocks core mir texts r routine) ≤ n → blocks_weight (low_routine core mir texts r routine).blocks ≤ n
+low_light core mir r texts routine n some less = by (nat_lt most_charge routine.charge) refl
   where
-    by : (b : Bool) → nat_lt most_charge routine.charge ≡ b → blocks_weight (low_routine core mir r id routine).blocks ≤ n
+    by : (b : Bool) → nat_lt most_charge routine.charge ≡ b → blocks_weight (low_routine core mir texts r routine).blocks ≤ n
     by true e = rw e (omega (arith, some))
     by false e = rw e less
 
@@ -148,26 +148,22 @@ module _ (core : Core) (stack r : ℕ) (counted : AreCountedStatements ((program
       let all = both_size firsts work in
       omega (arith, a, b, all)
 
-  blocks_all : (mir : Mir) (id : ℕ) (routine : Routine) → IsRoutine core r routine → blocks_weight (all_blocks core mir r id routine) ≤ 44 * nodes + 8 * received_in core r + 9 * (variables_of core r).count + 46
-  blocks_all mir id routine is =
+  blocks_all : (mir : Mir) (texts : List (List ℕ)) (routine : Routine) → IsRoutine core r routine → blocks_weight (all_blocks core mir texts r routine) ≤ 44 * nodes + 8 * received_in core r + 9 * (variables_of core r).count + 46
+  blocks_all mir texts routine is =
       let frame = frame_of core r routine in
       let front = beginning core frame r in
       let begins = beginning_light core frame r in
-      let light = blocks_light core mir frame r id front routine.blocks in
+      let light = blocks_light core mir frame r texts front routine.blocks in
       let seen = ap blocks_size (is.blocks stack) in
       let small = blocks_small (items_of (program_of core stack) r) in
       let items = items_light in
-      let all = low_join (low_blocks core mir frame r id front routine.blocks) error_blocks in
+      let all = low_join (low_blocks core mir frame texts front routine.blocks) error_blocks in
       omega (arith, begins, light, seen, small, items, all)
 
-  pub routine_light : (mir : Mir) (id : ℕ) (routine : Routine) → IsRoutine core r routine → blocks_weight (low_routine core mir r id routine).blocks ≤ 44 * nodes + 8 * received_in core r + 9 * (variables_of core r).count + 46
-  routine_light mir id routine is = low_light core mir r id routine (44 * nodes + 8 * received_in core r + 9 * (variables_of core r).count + 46) (omega arith) (blocks_all mir id routine is)
+  pub routine_light : (mir : Mir) (texts : List (List ℕ)) (routine : Routine) → IsRoutine core r routine → blocks_weight (low_routine core mir texts r routine).blocks ≤ 44 * nodes + 8 * received_in core r + 9 * (variables_of core r).count + 46
+  routine_light mir texts routine is = low_light core mir r texts routine (44 * nodes + 8 * received_in core r + 9 * (variables_of core r).count + 46) (omega arith) (blocks_all mir texts routine is)
 
 -- ---- single instructions
-
-every_append : {A : Type 0} (Q : A → Type 0) (xs ys : List A) → Every Q xs → Every Q ys → Every Q (xs ++ ys)
-every_append Q [] ys a b = b
-every_append Q (x ∷ xs) ys a b = (a.0, every_append Q xs ys a.1 b)
 
 module _ (most : ℕ) where
   abbrev IsLight : Instr → Type 0
@@ -225,7 +221,7 @@ module _ (most : ℕ) where
 module _ (core : Core) (mir : Mir) (r most : ℕ) where
   code_each : (code : List Instruction) → Every (IsLight most) (map (view_instruction core r) code) → Every (IsSmall core mir most) code
   code_each [] p = tt
-  code_each (i ∷ is) p = (λ frame id. let e = instruction_small core frame mir r id i in omega (arith, e, p.0), code_each is p.1)
+  code_each (i ∷ is) p = (λ frame texts. let e = instruction_small core frame mir r texts i in omega (arith, e, p.0), code_each is p.1)
 
   blocks_of_each : (bs : List Block) → Every (Every (IsLight most)) (map (view_block core r) bs) → Every (λ b. Every (IsSmall core mir most) b.code) bs
   blocks_of_each [] p = tt
@@ -283,20 +279,20 @@ units_each (u ∷ us) =
     let one = code_join (entering u.initialization) (becoming_due u.finalization) in
     subst (Every (IsLight 22)) (sym (flat_map-cons unit_code u us)) (every_append (IsLight 22) (unit_code u) (flat_map unit_code us) (each_light 22 (unit_code u) (omega (arith, a, b, one))) (units_each us))
 
-pub program_light : (core : Core) (mir : Mir) (r id : ℕ) (routine : Routine) → IsProgram core.units routine → AreSmall core mir 22 routine × (blocks_weight (low_routine core mir r id routine).blocks ≤ 10 * length core.units + 17 * (variables_of core r).count + 68)
-program_light core mir r id routine is =
+pub program_light : (core : Core) (mir : Mir) (r : ℕ) (texts : List (List ℕ)) (routine : Routine) → IsProgram core.units routine → AreSmall core mir 22 routine × (blocks_weight (low_routine core mir texts r routine).blocks ≤ 10 * length core.units + 17 * (variables_of core r).count + 68)
+program_light core mir r texts routine is =
     let frame = frame_of core r routine in
     let front = beginning core frame r in
     let begins = beginning_light core frame r in
     let rows_there = rows_few core frame r in
-    let light = blocks_light core mir frame r id front routine.blocks in
+    let light = blocks_light core mir frame r texts front routine.blocks in
     let seen = ap blocks_size (is.blocks core r) in
     let units = units_light core.units in
     let whole = code_join (flat_map unit_code core.units) (ret ∷ []) in
-    let all = low_join (low_blocks core mir frame r id front routine.blocks) error_blocks in
+    let all = low_join (low_blocks core mir frame texts front routine.blocks) error_blocks in
     let returns : 22 ≤ 22 = omega arith in
     let each = every_append (IsLight 22) (flat_map unit_code core.units) (ret ∷ []) (units_each core.units) (returns, tt) in
     let most = 10 * length core.units + 17 * (variables_of core r).count + 68 in (
       blocks_of_each core mir r 22 routine.blocks (subst (Every (Every (IsLight 22))) (sym (is.blocks core r)) (each, ((returns, tt), tt))),
-      low_light core mir r id routine most (omega arith) (omega (arith, begins, rows_there, light, seen, units, whole, all)),
+      low_light core mir r texts routine most (omega arith) (omega (arith, begins, rows_there, light, seen, units, whole, all)),
     )

@@ -12,14 +12,15 @@ use Rattle.op_core.specs.declared.ids.TypeId.{TypeId}
 use Rattle.op_core.specs.declared.ids.VariableId.{VariableId}
 use Rattle.op_core.specs.declared.operation.Conversion.{Conversion}
 use Rattle.op_core.specs.declared.program.Core.{Core}
-use Rattle.op_core.specs.declared.routine.Variable.{Variable}
 use Rattle.op_core.specs.declared.statement.Label.{Label}
 use Rattle.op_core.specs.declared.types.CoreType.{CoreType}
 use Rattle.op_core.specs.declared.types.CoreType.TheVariants.{Array, Boolean, Char, Set}
 use Rattle.op_core.specs.declared.types.IntegerKind.TheVariants.{Signed32}
+use Rattle.op_frames.proofs.ExpressionsWithin.{valued_node}
+use Rattle.op_frames.proofs.StatementsWithin.{counter_one}
 use Rattle.op_frames.specs.Counted.{IsCounted, IsCountedAmount, IsCountedItem, AreCountedItems, IsCountedBuiltIn, IsCountedStatement, AreCountedStatements, AreCountedBranches, AreCountedLabels}
 use Rattle.op_meaning.specs.Actions.{load, store, copy, begin_with, arithmetic, single as lone, combine, write_text}
-use Rattle.op_meaning.specs.Charge.{nodes_of, valued, expression_weight, item_weight, items_weight, built_in_weight, labels_weight, counter_weight, statement_weight, statements_weight, branches_weight}
+use Rattle.op_meaning.specs.Charge.{nodes_of, expression_weight, item_weight, items_weight, built_in_weight, labels_weight, statement_weight, statements_weight, branches_weight}
 use Rattle.op_meaning.specs.Expressions.{Here, past, past_whole, Env, Now, ready, at_path, a_text, Found, found, whole_path, path_of, own, then_acts, element_step, converted, find, make}
 use Rattle.op_meaning.specs.Items.{act, choose, select, leave, halt, Items, none, ◌&◌, only, acts}
 use Rattle.op_meaning.specs.Paths.{with_step}
@@ -31,14 +32,6 @@ use Rattle.op_sizes.specs.Written.{IsWritten, IsWrittenItem, AreWrittenItems, Is
 use Rattle.op_tree.specs.declared.operator.Operator.{Operator}
 use Rattle.op_tree.specs.declared.operator.Operator.TheVariants.{Add, Subtract}
 use Rattle.op_tree.specs.declared.statement.Direction.{Direction}
-
-valued_one : (core : Core) (of : TypeId) → nodes_of (valued core of) ≡ 1
-unfolding valued
-valued_one core of = refl
-
-counter_one : (core : Core) (v : Option Variable) → nodes_of (counter_weight core v) ≡ 1
-counter_one core None = refl
-counter_one core (Some v) = valued_one core v.of
 
 -- ---- assignments
 

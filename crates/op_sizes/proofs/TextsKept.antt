@@ -1,10 +1,12 @@
--- The literals of code are those of the items that it is made of: each is there once.
+-- The literals of code are those of the items that it is made of: each is there once. What is said of what they count for is so whatever each counts
+-- for, so it is also said of one of them alone.
 use Rattle.std.proofs.Common.{◌≡◌, ◌≤◌, ℕ, zero, suc, ◌+◌, Bool, true, false, List, [], ◌∷◌, ◌++◌, length, length-append, refl, ap, arith, if◌then◌else◌}
 use Rattle.std.proofs.lemmas.List.Concat.{flat_map-cons}
 use Rattle.std.specs.List.{flat_map}
-use Rattle.op_constants.proofs.FirstRows.{first-length}
+use Rattle.op_constants.specs.FirstBytes.{are_zeros, first_bytes}
 use Rattle.op_constants.specs.Literals.{action_literals, block_literals, instruction_literals, routine_literals}
-use Rattle.op_constants.specs.Offsets.{size_in}
+use Rattle.op_core.specs.Initial.{FirstValue}
+use Rattle.op_core.specs.declared.ids.TypeId.{TypeId}
 use Rattle.op_core.specs.declared.program.Core.{Core}
 use Rattle.op_lower.specs.Seen.{seen, seen_blocks}
 use Rattle.op_meaning.specs.Actions.{Action, begin_with, pick, write_text}
@@ -19,22 +21,29 @@ use Rattle.op_mir.specs.declared.code.Routine.{Routine}
 use Rattle.op_mir.specs.declared.instruction.Instruction.TheVariants.{Act, Call, Dispatch, Jump, MakeDue, Return, Stop, Switch, Unless, When}
 use Rattle.op_mir.specs.declared.instruction.Instruction.{Instruction}
 
--- the bytes of literals
-abbrev pub total : List (List ℕ) → ℕ
-total [] = 0
-total (l ∷ ls) = length l + total ls
+-- what texts count for, where each counts for so much
+abbrev pub total : (List ℕ → ℕ) → List (List ℕ) → ℕ
+total w [] = 0
+total w (l ∷ ls) = w l + total w ls
 
-pub total_join : (a b : List (List ℕ)) → total (a ++ b) ≡ total a + total b
-total_join [] b = omega arith
-total_join (l ∷ a) b = let e = total_join a b in omega (arith, e)
+pub total_join : (w : List ℕ → ℕ) (a b : List (List ℕ)) → total w (a ++ b) ≡ total w a + total w b
+total_join w [] b = omega arith
+total_join w (l ∷ a) b = let e = total_join w a b in omega (arith, e)
 
-module _ (core : Core) where
-  -- ---- the bytes of the literals of actions, of code and of items
+pub total_three : (w : List ℕ → ℕ) (a b c : List (List ℕ)) → total w (a ++ b ++ c) ≡ total w a + total w b + total w c
+total_three w a b c = let e = total_join w (a ++ b) c in let f = total_join w a b in omega (arith, e, f)
+
+-- what a variable begins with, if it does not begin as zero
+abbrev pub first_text : Core → TypeId → FirstValue → List (List ℕ)
+first_text core of value = if are_zeros (first_bytes core of value) then [] else first_bytes core of value ∷ []
+
+module _ (w : List ℕ → ℕ) (core : Core) where
+  -- ---- the literals of actions, of code and of items
 
   abbrev pub action_text : Action → ℕ
-  action_text (write_text bytes width) = length bytes
-  action_text (pick to bytes index) = length bytes
-  action_text (begin_with v of value) = size_in core of
+  action_text (write_text bytes width) = w bytes
+  action_text (pick to bytes index) = w bytes
+  action_text (begin_with v of value) = total w (first_text core of value)
   action_text _ = 0
 
   abbrev pub instruction_text : Instr → ℕ
@@ -50,44 +59,44 @@ module _ (core : Core) where
   blocks_text (code ∷ blocks) = code_text code + blocks_text blocks
 
 abbrev mutual
-  pub items_text : Core → Items → ℕ
-  items_text core none = 0
-  items_text core (then_do i others) = item_text core i + items_text core others
+  pub items_text : (List ℕ → ℕ) → Core → Items → ℕ
+  items_text w core none = 0
+  items_text w core (then_do i others) = item_text w core i + items_text w core others
 
-  pub item_text : Core → Item → ℕ
-  item_text core (act a) = action_text core a
-  item_text core (also truth t items) = items_text core items
-  item_text core (choose t first otherwise) = items_text core first + items_text core otherwise
-  item_text core (select t cs otherwise) = cases_text core cs + items_text core otherwise
-  item_text core (loop l) = turns_text core l
-  item_text core (body_first l) = turns_text core l
-  item_text core (protect t keep items finalization) = items_text core items + items_text core finalization
-  item_text core (leave what) = 0
-  item_text core (enter r given receiver) = 0
-  item_text core (halt t) = 0
-  item_text core (finish keep) = 0
-  item_text core (attempt keep items cs) = 0
-  item_text core (throw t) = 0
-  item_text core rethrow = 0
-  item_text core (construct c r given to) = 0
-  item_text core (free takes_nil t) = 0
+  pub item_text : (List ℕ → ℕ) → Core → Item → ℕ
+  item_text w core (act a) = action_text w core a
+  item_text w core (also truth t items) = items_text w core items
+  item_text w core (choose t first otherwise) = items_text w core first + items_text w core otherwise
+  item_text w core (select t cs otherwise) = cases_text w core cs + items_text w core otherwise
+  item_text w core (loop l) = turns_text w core l
+  item_text w core (body_first l) = turns_text w core l
+  item_text w core (protect t keep items finalization) = items_text w core items + items_text w core finalization
+  item_text w core (leave what) = 0
+  item_text w core (enter r given receiver) = 0
+  item_text w core (halt t) = 0
+  item_text w core (finish keep) = 0
+  item_text w core (attempt keep items cs) = 0
+  item_text w core (throw t) = 0
+  item_text w core rethrow = 0
+  item_text w core (construct c r given to) = 0
+  item_text w core (free takes_nil t) = 0
 
-  pub turns_text : Core → Turns → ℕ
-  turns_text core (turns head t ends between body) = items_text core head + (items_text core between + items_text core body)
+  pub turns_text : (List ℕ → ℕ) → Core → Turns → ℕ
+  turns_text w core (turns head t ends between body) = items_text w core head + (items_text w core between + items_text w core body)
 
-  pub cases_text : Core → Cases → ℕ
-  cases_text core no_cases = 0
-  cases_text core (cases labels items others) = items_text core items + cases_text core others
+  pub cases_text : (List ℕ → ℕ) → Core → Cases → ℕ
+  cases_text w core no_cases = 0
+  cases_text w core (cases labels items others) = items_text w core items + cases_text w core others
 
-module _ (core : Core) where
+module _ (w : List ℕ → ℕ) (core : Core) where
   -- ---- code of items
 
-  blocks_join : (a b : List (List Instr)) → blocks_text core (a ++ b) ≡ blocks_text core a + blocks_text core b
+  blocks_join : (a b : List (List Instr)) → blocks_text w core (a ++ b) ≡ blocks_text w core a + blocks_text w core b
   blocks_join [] b = omega arith
   blocks_join (c ∷ a) b = let e = blocks_join a b in omega (arith, e)
 
   -- a jump, where it is nothing else
-  continued_by : (k : ℕ) (behind : List Instr) (b : Bool) → is_jump behind ≡ b → code_text core (if b then behind else jump k ∷ []) ≤ 0
+  continued_by : (k : ℕ) (behind : List Instr) (b : Bool) → is_jump behind ≡ b → code_text w core (if b then behind else jump k ∷ []) ≤ 0
   continued_by k behind false e = omega arith
   continued_by k (jump j ∷ []) true e = omega arith
   continued_by k [] true e = absurd (cc e)
@@ -102,21 +111,21 @@ module _ (core : Core) where
   continued_by k (stop t ∷ is) true e = absurd (cc e)
   continued_by k (ret ∷ is) true e = absurd (cc e)
 
-  continued_kept : (k : ℕ) (behind : List Instr) → code_text core (continued k behind) ≤ 0
+  continued_kept : (k : ℕ) (behind : List Instr) → code_text w core (continued k behind) ≤ 0
   continued_kept k behind = continued_by k behind (is_jump behind) refl
 
-  branch_if_kept : (ends : Bool) (t k : ℕ) → instruction_text core (branch_if ends t k) ≡ 0
+  branch_if_kept : (ends : Bool) (t k : ℕ) → instruction_text w core (branch_if ends t k) ≡ 0
   branch_if_kept true t k = refl
   branch_if_kept false t k = refl
 
-  branch_unless_kept : (truth : Bool) (t k : ℕ) → instruction_text core (branch_unless truth t k) ≡ 0
+  branch_unless_kept : (truth : Bool) (t k : ℕ) → instruction_text w core (branch_unless truth t k) ≡ 0
   branch_unless_kept true t k = refl
   branch_unless_kept false t k = refl
 
   -- ---- what leaves code
 
   abbrev LeaveBy : Exits → Type 0
-  LeaveBy out = (reason : ℕ) → code_text core (out reason) ≤ 0
+  LeaveBy out = (reason : ℕ) → code_text w core (out reason) ≤ 0
 
   loop_leaves : (out : Exits) (k : ℕ) → LeaveBy out → LeaveBy (loop_exits out k)
   loop_leaves out k l zero = l zero
@@ -131,7 +140,7 @@ module _ (core : Core) where
   -- ---- code
 
   mutual
-    pub code_kept : (out : Exits) (items : Items) (k : ℕ) (behind : List Instr) → LeaveBy out → code_text core (code out items k behind).now + blocks_text core (code out items k behind).blocks ≤ code_text core behind + items_text core items
+    pub code_kept : (out : Exits) (items : Items) (k : ℕ) (behind : List Instr) → LeaveBy out → code_text w core (code out items k behind).now + blocks_text w core (code out items k behind).blocks ≤ code_text w core behind + items_text w core items
     code_kept out none k behind l = omega arith
     code_kept out (then_do i others) k behind l =
         let b = code out others k behind in
@@ -141,7 +150,7 @@ module _ (core : Core) where
         let all = blocks_join b.blocks a.blocks in
         omega (arith, rest, first, all)
 
-    item_kept : (out : Exits) (i : Item) (k : ℕ) (behind : List Instr) → LeaveBy out → code_text core (code_item out i k behind).now + blocks_text core (code_item out i k behind).blocks ≤ code_text core behind + item_text core i
+    item_kept : (out : Exits) (i : Item) (k : ℕ) (behind : List Instr) → LeaveBy out → code_text w core (code_item out i k behind).now + blocks_text w core (code_item out i k behind).blocks ≤ code_text w core behind + item_text w core i
     item_kept out (act a) k behind l = omega arith
     item_kept out (also truth t items) k behind l =
         let joined = continued_kept k behind in
@@ -186,7 +195,7 @@ module _ (core : Core) where
     item_kept out (construct c r given to) k behind l = omega arith
     item_kept out (free takes_nil t) k behind l = omega arith
 
-    loop_kept : (out : Exits) (t : Turns) (k : ℕ) (behind : List Instr) → LeaveBy out → blocks_text core (code_loop out t k behind) ≤ code_text core behind + turns_text core t
+    loop_kept : (out : Exits) (t : Turns) (k : ℕ) (behind : List Instr) → LeaveBy out → blocks_text w core (code_loop out t k behind) ≤ code_text w core behind + turns_text w core t
     loop_kept out (turns head t ends between body) k behind l =
         let c = code (loop_exits out k) body (k + 3) (jump (suc k) ∷ []) in
         let b = code (loop_exits out k) between (k + 3 + length c.blocks) (continued (suc (suc k)) c.now) in
@@ -200,7 +209,7 @@ module _ (core : Core) where
         let more = blocks_join b.blocks a.blocks in
         omega (arith, cs, bs, as', joined, branch, all, more)
 
-    cases_kept : (out : Exits) (cs : Cases) (k : ℕ) (behind : List Instr) → LeaveBy out → code_text core behind ≤ 0 → blocks_text core (code_cases out cs k behind).1 ≤ cases_text core cs
+    cases_kept : (out : Exits) (cs : Cases) (k : ℕ) (behind : List Instr) → LeaveBy out → code_text w core behind ≤ 0 → blocks_text w core (code_cases out cs k behind).1 ≤ cases_text w core cs
     cases_kept out no_cases k behind l joined = omega arith
     cases_kept out (cases labels items others) k behind l joined =
         let b = code_cases out others k behind in
@@ -211,24 +220,24 @@ module _ (core : Core) where
         omega (arith, rest, here, all, joined)
 
   -- all blocks of a routine
-  pub blocks_kept : (items : Items) → blocks_text core (blocks_of items) ≤ items_text core items
+  pub blocks_kept : (items : Items) → blocks_text w core (blocks_of items) ≤ items_text w core items
   blocks_kept items =
-      let all = code_kept routine_exits items 2 (jump 1 ∷ []) (λ reason. let one : code_text core (jump 1 ∷ []) ≤ 0 = omega arith in one) in
+      let all = code_kept routine_exits items 2 (jump 1 ∷ []) (λ reason. let one : code_text w core (jump 1 ∷ []) ≤ 0 = omega arith in one) in
       omega (arith, all)
 
   -- ---- literals of code
 
-  first_literal : (r v : ℕ) → total (action_literals core r (BeginWith (record { 0 = v }))) ≤ size_in core (type_of_local core r v)
+  first_literal : (r v : ℕ) → total w (action_literals core r (BeginWith (record { 0 = v }))) ≤ total w (first_text core (type_of_local core r v) (first_at core r v))
   first_literal r v = by (shape_of core (type_of_local core r v)) refl
     where
-      by : (s : Shape) → shape_of core (type_of_local core r v) ≡ s → total (action_literals core r (BeginWith (record { 0 = v }))) ≤ size_in core (type_of_local core r v)
+      by : (s : Shape) → shape_of core (type_of_local core r v) ≡ s → total w (action_literals core r (BeginWith (record { 0 = v }))) ≤ total w (first_text core (type_of_local core r v) (first_at core r v))
       by (single kind) e = rw e (omega arith)
-      by composite e = rw e (let long = first-length core (type_of_local core r v) (first_at core r v) in omega (arith, long))
+      by composite e = rw e (omega arith)
       by of_chars e = rw e (omega arith)
       by of_elements e = rw e (omega arith)
       by (of_instance holds) e = rw e (omega arith)
 
-  action_kept : (r : ℕ) (a : OwnAction) → total (action_literals core r a) ≤ action_text core (view_action core r a)
+  action_kept : (r : ℕ) (a : OwnAction) → total w (action_literals core r a) ≤ action_text w core (view_action core r a)
   action_kept r (WriteText text width) = omega arith
   action_kept r (Pick to text index) = omega arith
   action_kept r (BeginWith v) = first_literal r v.0
@@ -240,7 +249,7 @@ module _ (core : Core) where
   action_kept r (Compute computation) = omega arith
   action_kept r (Write writing) = omega arith
 
-  instruction_kept : (r : ℕ) (i : Instruction) → total (instruction_literals core r i) ≤ instruction_text core (view_instruction core r i)
+  instruction_kept : (r : ℕ) (i : Instruction) → total w (instruction_literals core r i) ≤ instruction_text w core (view_instruction core r i)
   instruction_kept r (Act action landing) = action_kept r action
   instruction_kept r (Call id call) = omega arith
   instruction_kept r (Jump block) = omega arith
@@ -252,29 +261,29 @@ module _ (core : Core) where
   instruction_kept r (Stop t) = omega arith
   instruction_kept r Return = omega arith
 
-  own_kept : (r : ℕ) (is : List Instruction) → total (flat_map (instruction_literals core r) is) ≤ code_text core (seen core r is)
+  own_kept : (r : ℕ) (is : List Instruction) → total w (flat_map (instruction_literals core r) is) ≤ code_text w core (seen core r is)
   own_kept r [] = omega arith
   own_kept r (i ∷ is) =
       let first = instruction_kept r i in
       let rest = own_kept r is in
-      let split = ap total (flat_map-cons (instruction_literals core r) i is) in
-      let all = total_join (instruction_literals core r i) (flat_map (instruction_literals core r) is) in
+      let split = ap (total w) (flat_map-cons (instruction_literals core r) i is) in
+      let all = total_join w (instruction_literals core r i) (flat_map (instruction_literals core r) is) in
       omega (arith, first, rest, split, all)
 
-  own_blocks : (r : ℕ) (bs : List Block) → total (flat_map (block_literals core r) bs) ≤ blocks_text core (seen_blocks core r bs)
+  own_blocks : (r : ℕ) (bs : List Block) → total w (flat_map (block_literals core r) bs) ≤ blocks_text w core (seen_blocks core r bs)
   own_blocks r [] = omega arith
   own_blocks r (b ∷ bs) =
       let first = own_kept r b.code in
       let rest = own_blocks r bs in
-      let split = ap total (flat_map-cons (block_literals core r) b bs) in
-      let all = total_join (block_literals core r b) (flat_map (block_literals core r) bs) in
+      let split = ap (total w) (flat_map-cons (block_literals core r) b bs) in
+      let all = total_join w (block_literals core r b) (flat_map (block_literals core r) bs) in
       omega (arith, first, rest, split, all)
 
-  pub routine_kept : (r : ℕ) (routine : Routine) → total (routine_literals core r routine) ≤ blocks_text core (seen_blocks core r routine.blocks)
+  pub routine_kept : (r : ℕ) (routine : Routine) → total w (routine_literals core r routine) ≤ blocks_text w core (seen_blocks core r routine.blocks)
   routine_kept r routine = own_blocks r routine.blocks
 
 -- the bytes of literals that stand one after the other
-pub all_bytes : (ls : List (List ℕ)) → length (flat_map (λ literal. literal) ls) ≡ total ls
+pub all_bytes : (ls : List (List ℕ)) → length (flat_map (λ literal. literal) ls) ≡ total (λ l. length l) ls
 all_bytes [] = refl
 all_bytes (l ∷ ls) =
     let rest = all_bytes ls in

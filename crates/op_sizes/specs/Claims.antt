@@ -35,9 +35,9 @@ use Rattle.op_sizes.specs.Written.{AreWrittenStatements}
 abbrev pub WeightsCoverLengths : Type 0
 WeightsCoverLengths = (code : List LowInstruction) → length code ≤ code_weight code
 
--- the low code of the instruction counts for so much at most, whatever the frame and the literals in front
+-- the low code of the instruction counts for so much at most, whatever the frame and the literals
 abbrev pub IsSmall : Core → Mir → (most : ℕ) → Instruction → Type 0
-IsSmall core mir most i = (frame : Frame) (id : ℕ) → code_weight (instruction_code core mir frame id i) ≤ most
+IsSmall core mir most i = (frame : Frame) (texts : List (List ℕ)) → code_weight (instruction_code core mir frame texts i) ≤ most
 
 -- that of each instruction of a routine's managed code does
 abbrev pub AreSmall : Core → Mir → (most : ℕ) → Routine → Type 0
@@ -58,15 +58,15 @@ received_in core r = length (take (parameters_of core r) (rows core.variables (v
 -- each parameter
 abbrev pub RoutinesAreSmall : Type 0
 RoutinesAreSmall =
-    (core : Core) (mir : Mir) (stack r id : ℕ) (routine : Routine) → IsRoutine core r routine
+    (core : Core) (mir : Mir) (texts : List (List ℕ)) (stack r : ℕ) (routine : Routine) → IsRoutine core r routine
     → AreCountedStatements ((program_of core stack).body r) → AreWrittenStatements ((program_of core stack).body r)
-    → blocks_weight (low_routine core mir r id routine).blocks ≤ 44 * nodes_of (statements_weight core ((program_of core stack).body r)) + 8 * received_in core r + 9 * (variables_of core r).count + 46
+    → blocks_weight (low_routine core mir texts r routine).blocks ≤ 44 * nodes_of (statements_weight core ((program_of core stack).body r)) + 8 * received_in core r + 9 * (variables_of core r).count + 46
 
 -- what stands below all routines: one instruction, and all blocks by the units whose parts it enters
 abbrev pub ProgramIsSmall : Type 0
 ProgramIsSmall =
-    (core : Core) (mir : Mir) (r id : ℕ) (routine : Routine) → IsProgram core.units routine
-    → AreSmall core mir 22 routine × (blocks_weight (low_routine core mir r id routine).blocks ≤ 10 * length core.units + 17 * (variables_of core r).count + 68)
+    (core : Core) (mir : Mir) (texts : List (List ℕ)) (r : ℕ) (routine : Routine) → IsProgram core.units routine
+    → AreSmall core mir 22 routine × (blocks_weight (low_routine core mir texts r routine).blocks ≤ 10 * length core.units + 17 * (variables_of core r).count + 68)
 
 -- what is linked of what the optimizer makes of a program without methods takes no more bytes than the size of the program
 abbrev pub ImagesAreSmall : Type 0

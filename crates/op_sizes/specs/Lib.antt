@@ -1,6 +1,6 @@
 pub mod Claims
-pub mod Literals
 pub mod ProgramSize
 pub mod Sizes
+pub mod Texts
 pub mod Weights
 pub mod Written

@@ -1,10 +1,14 @@
 -- The size of a program, which bounds that of its image: of what is written in it, each thing at so many bytes.
-use Rattle.std.specs.Prelude.{ℕ, ◌+◌, ◌-◌, ◌*◌, List, ◌++◌, length, Option, Some, None}
+use Rattle.std.specs.Prelude.{ℕ, ◌+◌, ◌-◌, ◌*◌, List, ◌++◌, length, Option, Some, None, if◌then◌else◌}
 use Rattle.std.specs.List.{flat_map, sum_by}
-use Rattle.std.specs.Option.{option_to_list}
+use Rattle.std.specs.Option.{option_map, option_to_list}
+use Rattle.op_constants.specs.FirstBytes.{are_zeros, first_bytes}
+use Rattle.op_constants.specs.Texts.{distinct}
+use Rattle.op_core.specs.Initial.{FirstValue, first_value_of}
 use Rattle.op_core.specs.Rows.{rows}
 use Rattle.op_core.specs.Sound.{globals_of, size_of}
 use Rattle.op_core.specs.declared.ids.RoutineId.{RoutineId}
+use Rattle.op_core.specs.declared.ids.TypeId.{TypeId}
 use Rattle.op_core.specs.declared.program.Core.{Core}
 use Rattle.op_core.specs.declared.program.Unit.{Unit as UnitRow}
 use Rattle.op_core.specs.declared.routine.Role.TheVariants.{Constant, Handler, Object, Parameter, Plain, Result}
@@ -12,7 +16,7 @@ use Rattle.op_core.specs.declared.routine.Role.{Role}
 use Rattle.op_core.specs.declared.routine.Routine.{Routine}
 use Rattle.op_core.specs.declared.routine.Variable.{Variable}
 use Rattle.op_meaning.specs.Charge.{body_weight, nodes_of, statements_in}
-use Rattle.op_sizes.specs.Literals.{body_literals}
+use Rattle.op_sizes.specs.Texts.{body_texts}
 
 -- ---- nodes: those that a body is charged for
 
@@ -49,20 +53,26 @@ names core =
     + length core.globals
     + length core.fields
 
--- ---- literals
+-- ---- literals: each of the different texts of all bodies
+
+abbrev pub texts : Core → List (List ℕ)
+texts core = flat_map (λ x. body_texts (statements_in x.body)) core.routines
+
+abbrev pub text_size : List ℕ → ℕ
+text_size text = 64 + length text
 
 abbrev pub literals : Core → ℕ
-literals core = sum_by (λ x. body_literals (statements_in x.body)) core.routines
+literals core = sum_by text_size (distinct (texts core))
 
 -- ---- first values
 
--- the bytes of a variable that is declared with a first value
-abbrev size_by : {A : Type 0} → Option A → ℕ → ℕ
-size_by None size = 0
-size_by (Some value) size = size
+-- the bytes of a variable that does not begin as zero
+abbrev pub first_size_by : Core → TypeId → Option FirstValue → ℕ
+first_size_by core of None = 0
+first_size_by core of (Some value) = if are_zeros (first_bytes core of value) then 0 else size_of core of
 
 abbrev pub first_size : Core → Variable → ℕ
-first_size core v = size_by v.first_value (size_of core v.of)
+first_size core v = first_size_by core v.of (option_map (λ i. first_value_of i.value) v.first_value)
 
 abbrev pub variables_size : Core → List Variable → ℕ
 variables_size core vs = sum_by (first_size core) vs

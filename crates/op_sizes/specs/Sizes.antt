@@ -1,6 +1,6 @@
 -- How much low code managed code and items come to at most.
 use Rattle.std.specs.Prelude.{ℕ, ◌+◌, ◌*◌, List, [], ◌∷◌, length}
-use Rattle.op_meaning.specs.Actions.{Action, constant, load, store, copy, look, begin_with, arithmetic, compare, low_bits, check, single, span, combine, contains, check_set}
+use Rattle.op_meaning.specs.Actions.{Action, constant, load, store, copy, look, begin_with, pick, arithmetic, compare, negate, complement, invert, absolute, odd, upper, low_bits, check, neighbour, single, span, combine, contains, check_set, write_number, write_truth, write_char, write_text}
 use Rattle.op_meaning.specs.Items.{Given, by_value, by_reference, by_place, by_copy, Receiver, nowhere, to_temp, to_place, Item, act, also, choose, select, loop, body_first, protect, leave, enter, finish, attempt, throw, rethrow, halt, construct, free, Items, none, then_do, Turns, turns, Cases, no_cases, cases}
 use Rattle.op_meaning.specs.Paths.{Path}
 use Rattle.op_mir.specs.Code.{Arm, Instr, do_act, do_call, jump, when, unless, switch, dispatch, make_due, stop, ret}
@@ -19,16 +19,27 @@ action_size (store to kind from) = 1 + path_size to
 action_size (copy of to from) = 16 + (path_size from + path_size to)
 action_size (look at) = 1 + path_size at
 action_size (begin_with v of value) = 9
+action_size (pick to text index) = 6
 action_size (arithmetic o checked to a b) = 7
 action_size (compare o to a b) = 3
+action_size (negate checked to a) = 6
+action_size (complement to a) = 6
+action_size (invert to a) = 6
+action_size (absolute checked to a) = 6
+action_size (odd to a) = 6
+action_size (upper to a) = 6
 action_size (low_bits kind to a) = 2
 action_size (check low high to a) = 5
+action_size (neighbour distance low high to a) = 6
 action_size (single to a) = 2
 action_size (span to a b) = 13
 action_size (combine o to a b) = 3
 action_size (contains to a b) = 3
 action_size (check_set all to a) = 5
-action_size _ = 6
+action_size (write_number from width) = 6
+action_size (write_truth from width) = 6
+action_size (write_char from width) = 6
+action_size (write_text text width) = 6
 
 -- an argument counts with the call once more
 abbrev pub given_size : Given → ℕ

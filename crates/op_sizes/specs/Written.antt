@@ -2,18 +2,39 @@
 use Rattle.std.specs.Prelude.{◌<◌, Bool, true, false, List, [], ◌∷◌, length}
 use Rattle.op_core.specs.Expression.{Expression, expression, Root, constant, variable, object, call, construct, set, eof, eoln, Steps, no_steps, steps, Action, convert, bracket, field, index, method, prefixed, operate, is, apply, copy, Elements, no_elements, elements, Element, one, range, Arguments, no_arguments, arguments, Argument, value, place, array, listed}
 use Rattle.op_core.specs.Statement.{Item, plain, padded, BuiltIn, write, read, count, set_length, include, exclude, val, str, free, destroy, Statement, empty, block, if_then, if_else, case_of, while_do, repeat_until, for_to, for_in, try_finally, try_on, try_on_else, raise, reraise, call as call_statement, assign, exit, exit_with, break, continue, halt, built_in, Statements, no_statements, statements, Branches, no_branches, branches}
-use Rattle.op_core.specs.declared.operation.Origin.TheVariants.{Implied}
+use Rattle.op_core.specs.declared.operation.Origin.TheVariants.{Implied, Cast, As_}
 use Rattle.op_core.specs.declared.statement.Label.{Label}
 
 -- a conversion that is not written
 abbrev pub is_implied : Action → Bool
 is_implied (convert conversion Implied) = true
-is_implied _ = false
+is_implied (convert conversion Cast) = false
+is_implied (convert conversion As_) = false
+is_implied bracket = false
+is_implied (field id) = false
+is_implied (index e) = false
+is_implied (method id dispatch given) = false
+is_implied (prefixed operator checked) = false
+is_implied (operate operator checked e) = false
+is_implied (is class) = false
+is_implied (apply function checked) = false
+is_implied (copy e e') = false
 
 -- behind one that is not written there stands none
 abbrev pub MayFollow : Bool → Action → Type 0
+MayFollow false action = Unit {0}
 MayFollow true (convert conversion Implied) = ⊥
-MayFollow _ _ = Unit {0}
+MayFollow true (convert conversion Cast) = Unit {0}
+MayFollow true (convert conversion As_) = Unit {0}
+MayFollow true bracket = Unit {0}
+MayFollow true (field id) = Unit {0}
+MayFollow true (index e) = Unit {0}
+MayFollow true (method id dispatch given) = Unit {0}
+MayFollow true (prefixed operator checked) = Unit {0}
+MayFollow true (operate operator checked e) = Unit {0}
+MayFollow true (is class) = Unit {0}
+MayFollow true (apply function checked) = Unit {0}
+MayFollow true (copy e e') = Unit {0}
 
 abbrev mutual
   pub IsWritten : Expression → Type 0

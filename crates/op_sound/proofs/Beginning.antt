@@ -6,6 +6,7 @@ use Rattle.std.proofs.lemmas.Bool.{and_parts}
 use Rattle.std.proofs.lemmas.Int.{ints}
 use Rattle.std.proofs.lemmas.List.{length-map, length-replicate}
 use Rattle.std.proofs.lemmas.List.Elements.{All-append, All-cons, All-head, All-nil, All-tail, All-take}
+use Rattle.op_base.proofs.Lists.{slice_get-front}
 use Rattle.op_base.specs.declared.place.Place.{Place}
 use Rattle.op_base.specs.declared.rule.Refusal.{Refusal}
 use Rattle.op_sound.proofs.Tables.{tabled_beginning, tabled_beside}
@@ -47,7 +48,6 @@ use Rattle.op_tree.specs.Declaration.{Declaration, constants, types, variables, 
 use Rattle.op_tree.specs.Statement.{Statements}
 use Rattle.op_tree.specs.declared.file.ProgramHeading.{ProgramHeading}
 use Rattle.op_tree.specs.declared.position.Name.{Name}
-use Rattle.op_types.proofs.Extents.{front as stays_in_front}
 use Rattle.op_typed.proofs.TypeFacts.{boolean_kind, integer_kind}
 use Rattle.op_types.specs.Entering.{entered}
 use Rattle.op_types.specs.Names.{Named, lower}
@@ -326,7 +326,7 @@ part_settled {around} n (Some ss) h y =
       state = c.0;
       none = λ z. subst NoneAwaited (sym c.2) (none_last h.awaited z);
       part = subst (λ core. IsDonePart core None g.awaited (next_routine h)) (sym c.1) (subst (λ ps. IsDonePart new None ps (next_routine h)) (sym c.2) (some_and (λ r. r.parameters.count ≡ 0) there refl, λ z. last_closed z));
-      keeps = subst (λ core. KeepsParts h.core core None None h.awaited g.awaited) (sym c.1) (subst (λ ps. KeepsParts h.core new None None h.awaited ps) (sym c.2) (λ p lt d. (stays_in_front h.core.routines (row ∷ []) p lt, λ z. closed p lt d z)));
+      keeps = subst (λ core. KeepsParts h.core core None None h.awaited g.awaited) (sym c.1) (subst (λ ps. KeepsParts h.core new None None h.awaited ps) (sym c.2) (λ p lt d. (slice_get-front h.core.routines (row ∷ []) p lt, λ z. closed p lt d z)));
     }))
   where
     row : Routine

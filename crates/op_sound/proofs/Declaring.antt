@@ -3,6 +3,7 @@ use Rattle.std.proofs.Common.{◌≡◌, inl, inr, ◌⊎◌, ◌<◌, ◌≤◌
 use Rattle.std.proofs.lemmas.List.{drop-append-le}
 use Rattle.std.proofs.lemmas.List.Elements.{All-cons, All-head, All-nil, All-tail, Contains-push, filter-append}
 use Rattle.std.proofs.lemmas.List.Sums.{sum_by_push}
+use Rattle.op_base.proofs.Lists.{slice_get-front}
 use Rattle.op_core.proofs.Rows.{there_is}
 use Rattle.op_sound.proofs.Constants.{constant_whole, first_whole}
 use Rattle.op_sound.proofs.Growth.{Wider, contains_on, counts_on, or_on, people_on, some_is, first_lasts}
@@ -36,7 +37,6 @@ use Rattle.op_tree.specs.Declaration.{Constant as ConstantTree, TypeDeclaration,
 use Rattle.op_tree.specs.Denoter.{Denoter}
 use Rattle.op_tree.specs.Initial.{Initial, value, list, record_}
 use Rattle.op_tree.specs.declared.position.Name.{Name}
-use Rattle.op_types.proofs.Extents.{front}
 use Rattle.op_typed.specs.Standing.{IsSoundConstant, StandsFor}
 use Rattle.op_types.specs.declared.constant.Constant.{Constant as Value}
 use Rattle.op_types.specs.declared.visible.Meaning.TheVariants.{Variable}
@@ -68,12 +68,12 @@ beside core vs = record core { variables = core.variables ++ vs }
 
 globals_still : (vs ws : List VariableRow) (gs : List VariableId) → All (λ g. Row vs g.0) gs → flat_map (λ g. option_to_list (slice_get (vs ++ ws) g.0)) gs ≡ flat_map (λ g. option_to_list (slice_get vs g.0)) gs
 globals_still vs ws [] a = refl
-globals_still vs ws (g ∷ gs) a = ap₂ (λ o l. option_to_list o ++ l) (front vs ws g.0 (All-head (λ g. Row vs g.0) g gs a)) (globals_still vs ws gs (All-tail (λ g. Row vs g.0) g gs a))
+globals_still vs ws (g ∷ gs) a = ap₂ (λ o l. option_to_list o ++ l) (slice_get-front vs ws g.0 (All-head (λ g. Row vs g.0) g gs a)) (globals_still vs ws gs (All-tail (λ g. Row vs g.0) g gs a))
 
 global_more : (vs : List VariableRow) (v : VariableRow) (gs : List VariableId) → All (λ g. Row vs g.0) gs → flat_map (λ g. option_to_list (slice_get (vs ++ v ∷ []) g.0)) (gs ++ record { 0 = length vs } ∷ []) ≡ flat_map (λ g. option_to_list (slice_get vs g.0)) gs ++ v ∷ []
 global_more vs v [] a = ap (λ o. option_to_list o ++ []) (first_behind vs v [])
 global_more vs v (g ∷ gs) a =
-    ap₂ (λ o l. option_to_list o ++ l) (front vs (v ∷ []) g.0 (All-head (λ g. Row vs g.0) g gs a)) (global_more vs v gs (All-tail (λ g. Row vs g.0) g gs a))
+    ap₂ (λ o l. option_to_list o ++ l) (slice_get-front vs (v ∷ []) g.0 (All-head (λ g. Row vs g.0) g gs a)) (global_more vs v gs (All-tail (λ g. Row vs g.0) g gs a))
     ∙ sym (append_assoc (option_to_list (slice_get vs g.0)) (flat_map (λ g. option_to_list (slice_get vs g.0)) gs) (v ∷ []))
 
 pub locals_more : (core : Core) (i : Inside) (ws : List VariableRow) → i.first ≤ length core.variables → declared_in (Some i) (beside core ws) ≡ declared_in (Some i) core ++ filter (λ v. is_counted v.role) ws

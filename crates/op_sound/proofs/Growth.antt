@@ -3,6 +3,7 @@ use Rattle.std.proofs.Common.{◌≡◌, inl, inr, ◌⊎◌, ◌<◌, ◌≤◌
 use Rattle.std.proofs.lemmas.List.Elements.{All-append, All-cons, All-drop, All-head, All-nil, All-take, All-tail, All-weaker, Contains-append_left}
 use Rattle.std.proofs.lemmas.List.Sums.{sum_by-cons}
 use Rattle.std.proofs.lemmas.Option.{slice_get_within}
+use Rattle.op_base.proofs.Lists.{slice_get-front}
 use Rattle.op_base.specs.declared.place.Place.{Place}
 use Rattle.op_sound.specs.Complete.{Counts, Inside, IsBareRoutine, IsBareVariable, IsDone, IsDonePart, IsGlobalOf, IsOpen, IsPeopled, IsShown, IsTypedBody, IsTypedFirst, declared_in, scope, scope_of}
 use Rattle.op_check_unit.specs.Declaring.{most_global_bytes}
@@ -30,7 +31,6 @@ use Rattle.op_core.specs.declared.routine.Routine.{Routine}
 use Rattle.op_core.specs.declared.routine.Variable.{Variable}
 use Rattle.op_core.specs.declared.types.CoreType.{CoreType}
 use Rattle.op_core.specs.declared.types.CoreType.TheVariants.{Array, Record}
-use Rattle.op_types.proofs.Extents.{front}
 use Rattle.op_types.specs.Names.{Named}
 use Rattle.op_typed.specs.Standing.{AllStand, StandsFor}
 use Rattle.op_types.specs.declared.visible.Meaning.{Meaning}
@@ -188,7 +188,7 @@ value_on w f b t = value_known (broader [] w) f b t
 -- ---- bytes
 
 size_on : {old : Core} (new : Core) → KeepsExtents old → IsFrontOf old.extents new.extents → (of : TypeId) → Row old.types of.0 → size_of new of ≡ size_of old of
-size_on {old} new k f of lt = let e = k.count in ap (λ o. (unwrap_or o (plain 4 false)).size) (ap (λ xs. slice_get xs of.0) f.is ∙ front old.extents f.more of.0 (omega (arith, lt, e)))
+size_on {old} new k f of lt = let e = k.count in ap (λ o. (unwrap_or o (plain 4 false)).size) (ap (λ xs. slice_get xs of.0) f.is ∙ slice_get-front old.extents f.more of.0 (omega (arith, lt, e)))
 
 pub bytes_on : {old : Core} (new : Core) → KeepsExtents old → IsFrontOf old.extents new.extents → (vs : List Variable) → All (λ v. Row old.types v.of.0) vs → bytes_of new vs ≡ bytes_of old vs
 bytes_on new k f [] a = refl

@@ -5,6 +5,7 @@ use Rattle.std.proofs.lemmas.List.{drop-append-le, drop_all, length-map, map-app
 use Rattle.std.proofs.lemmas.List.Elements.{All-append, All-cons, All-drop, All-head, All-nil, All-push, All-set, All-tail, All-take, All-weaker}
 use Rattle.std.proofs.lemmas.Bool.{and_from, and_parts}
 use Rattle.std.proofs.lemmas.Option.{slice_get_within}
+use Rattle.op_base.proofs.Lists.{slice_get-front}
 use Rattle.op_base.specs.declared.place.Place.{Place}
 use Rattle.op_typed.proofs.Leaves.{whole_unshown}
 use Rattle.op_check_expr.specs.Naming.{feature_of_type}
@@ -16,7 +17,6 @@ use Rattle.op_sound.proofs.Tables.{tabled_beside}
 use Rattle.op_sound.proofs.Declaring.{beside, constants_settled, locals_more, settled_local, types_settled, variables_settled}
 use Rattle.op_judgement.specs.Judgement.{by_test, checked, fine, refused}
 use Rattle.op_judgement.specs.declared.rules.LanguageRule.TheVariants.{HeadingDiffers, LocalsTooLarge, WrongKindOfName}
-use Rattle.op_types.proofs.Extents.{front}
 use Rattle.op_sound.proofs.Growth.{Wider, bare_routines_on, bare_variable_on, body_on, exports_on, names_on, some_is, units_on, value_on}
 use Rattle.op_sound.proofs.Headings.{IsHead, form_whole, head_settled}
 use Rattle.op_sound.proofs.Steps.{Moves, founded, from_behind, from_breaks, from_checked, from_followed, from_gives, from_so, from_then, later_itself, lead_followed, leads, leads_on, settled_ahead, settled_named, wider}
@@ -155,7 +155,7 @@ with_routine_settled {around} c n x place h s k cases opens none = record {
   };
   unit = s.unit;
   rows = s.rows;
-  units = units_on h.core new around.start None c h.awaited (h.awaited ++ place ∷ []) (λ p lt d. (front h.core.routines (routine_row h.unit n x no_rows ∷ []) p lt, closed p lt d cases)) h.core.units s.units;
+  units = units_on h.core new around.start None c h.awaited (h.awaited ++ place ∷ []) (λ p lt d. (slice_get-front h.core.routines (routine_row h.unit n x no_rows ∷ []) p lt, closed p lt d cases)) h.core.units s.units;
   exports = exports_on around.apart w around.exports s.exports;
   start = s.start;
   names = names_on around.apart None w h.names s.names;
@@ -188,7 +188,7 @@ with_routine_settled {around} c n x place h s k cases opens none = record {
         none_last a z = elim (subst (Filled (λ place. Unit {0})) z (awaited_last h.awaited place a)) [ ]
 
     still : (b : RoutineId × Typed) → IsTypedBody around.apart h.core b → slice_get new.routines b.0.0 ≡ slice_get h.core.routines b.0.0
-    still b t = front h.core.routines (routine_row h.unit n x no_rows ∷ []) b.0.0 (body_below s b t)
+    still b t = slice_get-front h.core.routines (routine_row h.unit n x no_rows ∷ []) b.0.0 (body_below s b t)
 
     closed : (k : ℕ) → k < length h.core.routines → (IsOpen None h.awaited k → ⊥) → (c ≡ None) ⊎ (c ≡ Some (length h.core.routines)) → IsOpen c (h.awaited ++ place ∷ []) k → ⊥
     closed k lt d (inl f) (inl z) = absurd (cc)

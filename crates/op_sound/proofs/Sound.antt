@@ -6,6 +6,7 @@ use Rattle.std.proofs.lemmas.List.{drop-map, length-map, take-map}
 use Rattle.std.proofs.lemmas.List.Elements.{All-cons, All-drop, All-head, All-nil, All-tail, All-take, All-weaker}
 use Rattle.std.proofs.lemmas.List.Sums.{sum_by-append, sum_by-cons}
 use Rattle.std.proofs.lemmas.Option.{slice_get_within}
+use Rattle.op_base.proofs.Tests.{some_there}
 use Rattle.op_base.specs.declared.place.Place.{Place}
 use Rattle.op_core.proofs.Rows.{set_there, there_is}
 use Rattle.op_sound.proofs.Filled.{filled_grows}
@@ -265,10 +266,6 @@ has_body {h} {core} k n r e =
     let lt = slice_get_within core.routines n r e in
     let p = is_placed h.bodies (map body_in h.core.routines) n (k.have n lt) (omega (arith, l, m, q, lt)) in
     is_some_of _ r.body p.0 (some_eq (ap (option_map body_in) (sym e) ∙ sym (map_at body_in core.routines n) ∙ ap (λ xs. slice_get xs n) k.placed_so ∙ p.1))
-
-some_there : {A : Type 0} (o : Option A) → IsSome o → (a : A) × (o ≡ Some a)
-some_there None s = absurd (cc)
-some_there (Some a) s = (a, refl)
 
 rows_bare : (vs : List Variable) → map role_and_type (map bare_variable vs) ≡ map role_and_type vs
 rows_bare [] = refl

@@ -1,10 +1,10 @@
 -- A program that breaks no rule comes to a state in which all is sound, and each routine has its body.
 use Rattle.std.proofs.Common.{◌≡◌, inl, inr, ◌⊎◌, ◌<◌, ◌≤◌, ℕ, zero, suc, Bool, true, false, ◌||◌, List, [], ◌∷◌, ◌++◌, All, Contains, IfSome, append_assoc, drop, flat_map, is_some, leb-true, length, length-append, length-set, nat_eq, nat_le, option_to_list, replicate, slice_get, slice_set, take, Option, Some, None, refl, sym, ap, subst, ◌∙◌, arith, if◌then◌else◌, ◌+◌}
-use Rattle.std.proofs.lemmas.Bool.Decides.{nat_tests}
 use Rattle.std.proofs.lemmas.List.{length-replicate}
 use Rattle.std.proofs.lemmas.List.Elements.{All-drop, All-head, All-nil, All-push, All-set, All-tail, All-weaker, Contains-append_cases, Contains-append_left, Contains-append_right}
 use Rattle.std.proofs.lemmas.List.Sums.{sum_by_push}
 use Rattle.std.proofs.lemmas.Option.{slice_get_within}
+use Rattle.op_base.proofs.Tests.{eqb-itself, or_second}
 use Rattle.op_base.specs.declared.rule.Refusal.{Refusal}
 use Rattle.op_check_unit.proofs.Outlines.{all_same_count, same_count}
 use Rattle.op_sound.proofs.Tables.{tabled_beside}
@@ -271,11 +271,8 @@ outlined_by_settled k None u o there y = inl y
 abbrev SomeFault : ℕ → (ℕ → Faults) → Type 0
 SomeFault count faults = (k : ℕ) × (k < count) × ((r : Refusal) × IsIn r (faults k))
 
-nat_eq_itself : (k : ℕ) → nat_eq k k ≡ true
-nat_eq_itself k = grind (arith, nat_tests)
-
 pub own_fault : (k : ℕ) (f : Faults) (r : Refusal) → IsIn r f → IsIn r (if nat_eq k k then f else none)
-own_fault k f r i = subst (λ b. IsIn r (if b then f else none)) (sym (nat_eq_itself k)) i
+own_fault k f r i = subst (λ b. IsIn r (if b then f else none)) (sym (eqb-itself k)) i
 
 all_outlined_settled : (order : List (List ℕ)) (fs : List File) (ks : List ℕ) (o : Outline) → IsOutlined o → IsOutlined (all_outlined order fs ks o) ⊎ SomeFault (length o.exports) (faults_among order fs ks o)
 all_outlined_settled order fs [] o y = inl y
@@ -301,10 +298,6 @@ all_outlined_settled order fs (k ∷ ks) o y = one (outlined_by_settled k (slice
 one_more : (vs : List Variable) (v : VariableId) (x : Variable) (gs : List VariableId) → slice_get vs v.0 ≡ Some x → flat_map (λ g. option_to_list (slice_get vs g.0)) (gs ++ v ∷ []) ≡ flat_map (λ g. option_to_list (slice_get vs g.0)) gs ++ x ∷ []
 one_more vs v x [] e = ap (λ o. option_to_list o ++ []) e
 one_more vs v x (g ∷ gs) e = ap (λ l. option_to_list (slice_get vs g.0) ++ l) (one_more vs v x gs e) ∙ sym (append_assoc (option_to_list (slice_get vs g.0)) (flat_map (λ g. option_to_list (slice_get vs g.0)) gs) (x ∷ []))
-
-second : (a b : Bool) → a ≡ false → (a || b) ≡ true → b ≡ true
-second false b e f = f
-second true b e f = absurd (cc)
 
 abbrev around_at : List (Option Export) → List VariableId → ℕ → Around
 around_at exports apart start = record { exports = exports; apart = apart; start = start }
@@ -371,7 +364,7 @@ global_settled exports apart start v h lt y =
     let x = there_is h.core.variables v.0 lt in
     subst (λ o. From (λ t g. Settled (outside (around_at exports apart start) None) g × (g.core.variables ≡ h.core.variables)) (done (counted_global v o h))) (sym x.1)
     (from_where (is_some h.routine || nat_le (with_global v x.0 h).bytes most_global_bytes) GlobalsTooLarge x.0.name.position.place (with_global v x.0 h)
-    (λ f. from_gives (with_global_settled exports apart start v x.0 h x.1 (second (is_some h.routine) (nat_le (with_global v x.0 h).bytes most_global_bytes) y.routine f) y, refl)))
+    (λ f. from_gives (with_global_settled exports apart start v x.0 h x.1 (or_second (is_some h.routine) (nat_le (with_global v x.0 h).bytes most_global_bytes) y.routine f) y, refl)))
 
 globals_settled : (exports : List (Option Export)) (apart : List VariableId) (start : ℕ) (vs : List VariableId) (h : Here) → All (λ v. Row h.core.variables v.0) vs → Settled (outside (around_at exports (vs ++ apart) start) None) h → From (Rests (around_at exports apart start)) (done (globals_counted vs h))
 globals_settled exports apart start [] h a y = from_gives y

@@ -1,5 +1,6 @@
 -- Errors before and in the check.
-use Rattle.std.proofs.Common.{◌≡◌, ℕ, map, inl, inr, Option, Result, Ok, Err, IfErr, IfOk, List, sym, subst}
+use Rattle.std.proofs.Common.{◌≡◌, ℕ, map, Option, Result, Ok, Err, IfErr, List, sym, subst}
+use Rattle.op_base.proofs.Tests.{map_ok}
 use Rattle.op_base.specs.declared.files.NamedFile.{NamedFile}
 use Rattle.op_base.specs.declared.rule.Refusal.{Refusal}
 use Rattle.op_check_unit.specs.Checking.{CheckIs}
@@ -11,7 +12,7 @@ use Rattle.op_link.specs.declared.memory_map.Settings.{Settings}
 use Rattle.op_tree.specs.File.{file_of}
 use Rattle.op_tree.specs.declared.file.Tree.{Tree}
 use Rattle.op_units.specs.declared.forest.Forest.{Forest}
-use Rattle.op_tool.specs.Compiles.{Checks, error_of, FailsAs, FailsToCheck, HasNoImage, IsBroken, IsImage, IsNotCompiled, IsTypedProgram, Made, RefusesBy, by_files, not_compiled}
+use Rattle.op_tool.specs.Compiles.{Checks, error_of, FailsAs, FailsToCheck, HasNoImage, IsBroken, IsImage, IsTypedProgram, Made, RefusesBy, by_files}
 use Rattle.op_tool.specs.declared.compiler.CompileError.{CompileError}
 use Rattle.op_tool.specs.declared.compiler.CompileError.TheVariants.{Refused, ReadFault, Limit, NoMemory}
 use Rattle.op_units.specs.Walk.{Stops}
@@ -33,7 +34,7 @@ not_loaded stored name before after load.NoMemory free = free
 
 -- what fails to be checked is not compiled
 pub not_compiled_by : (stored : Option (List NamedFile)) (name : List ℕ) (settings : Settings) (before after : ℕ) (error : CompileError) → FailsToCheck stored name before after error → FailsAs stored name settings before after error
-not_compiled_by stored name settings before after (Refused refusal file) is_broken = inl is_broken
+not_compiled_by stored name settings before after (Refused refusal file) is_broken = is_broken
 not_compiled_by stored name settings before after ReadFault rose = rose
 not_compiled_by stored name settings before after Limit never = absurd never
 not_compiled_by stored name settings before after NoMemory free = free
@@ -45,10 +46,6 @@ not_checked stored name where_it_is before after refusal ReadFault broken never 
 not_checked stored name where_it_is before after refusal Limit broken never = never
 not_checked stored name where_it_is before after refusal NoMemory broken free = free
 
-pub ok_also : {A E : Type 0} {P Q : A → Type 0} (r : Result A E) → ((a : A) → P a → Q a) → IfOk r P → IfOk r Q
-ok_also (Ok a) f holds = f a holds
-ok_also (Err e) f holds = holds
-
 -- ---- the image of a program
 
 -- an image of a typed program is one of the program in the file
@@ -56,18 +53,11 @@ pub made_of : (stored : Option (List NamedFile)) (name : List ℕ) (settings : S
 made_of stored name settings core image is is_image = record { core = core; is_program = is; is_image = is_image }
 
 -- why a program has none
-pub fails_as : (stored : Option (List NamedFile)) (name : List ℕ) (settings : Settings) (before after : ℕ) (core : Core) (error : CompileError) → IsTypedProgram stored name core → HasNoImage core name settings error → FailsAs stored name settings before after error
-fails_as stored name settings before after core (Refused refusal file) is (is_file, is_refusal, no_image) = inr (is_file, is_refusal, core, is, no_image)
+pub fails_as : (stored : Option (List NamedFile)) (name : List ℕ) (settings : Settings) (before after : ℕ) (core : Core) (error : CompileError) → IsTypedProgram stored name core → HasNoImage core settings error → FailsAs stored name settings before after error
+fails_as stored name settings before after core (Refused refusal file) is never = absurd never
 fails_as stored name settings before after core ReadFault is never = absurd never
 fails_as stored name settings before after core Limit is no_image = (core, is, no_image)
 fails_as stored name settings before after core NoMemory is free = free
-
--- a typed program that is refused is not compiled
-pub not_made : (core : Core) (name : List ℕ) (settings : Settings) (error : CompileError) → IsNotCompiled core settings → RefusesBy name not_compiled error → HasNoImage core name settings error
-not_made core name settings (Refused refusal file) is (is_file, is_refusal) = (is_file, is_refusal, is)
-not_made core name settings ReadFault is never = never
-not_made core name settings Limit is never = absurd never
-not_made core name settings NoMemory is free = free
 
 pub err_also : {A E : Type 0} {P Q : E → Type 0} (r : Result A E) → ((e : E) → P e → Q e) → IfErr r P → IfErr r Q
 err_also (Ok a) f holds = holds

@@ -51,4 +51,4 @@ owes_no_memory verb.Exec now asked done empty only = inl (empty, only)
 owes_no_memory verb.Build now asked done empty only = inl (empty, only)
 owes_no_memory verb.Check now asked done empty only = (empty, only)
 owes_no_memory verb.List now asked done empty only = inl (empty, only)
-owes_no_memory verb.Run now asked done empty only = only
+owes_no_memory verb.Run now asked done empty only = (inl empty, only)

@@ -1,10 +1,10 @@
-pub mod After
+pub mod Calling
 pub mod Commands
 pub mod Compiling
 pub mod Executing
 pub mod Failing
-pub mod Grows
 pub mod Large
+pub mod OneOutcome
 pub mod Orders
 pub mod Running
 pub mod RunningFiles

@@ -1,28 +1,32 @@
 -- The run of an image, and what each of its answers owes.
-use Rattle.std.proofs.Common.{◌≡◌, ℕ, suc, ◌+◌, ◌-◌, ◌^◌, ◌<◌, ◌≤◌, ◌⊎◌, inl, inr, Bool, true, false, Option, Some, None, List, [], ◌++◌, codes, length, refl, ap, sym, ◌∙◌, subst, arith, append_assoc}
+use Rattle.std.proofs.Common.{◌≡◌, ℕ, suc, ◌+◌, ◌-◌, ◌^◌, ◌<◌, ◌≤◌, ◌⊎◌, inl, inr, false, Option, Some, None, List, [], ◌++◌, codes, length, refl, ap, sym, ◌∙◌, subst, arith, append_assoc}
+use Rattle.std.proofs.lemmas.Bool.{both_ways}
 use Rattle.std.proofs.lemmas.List.{append-nil}
 use Rattle.op_base.specs.Outside.{preceded}
-use Rattle.op_rv.specs.Environment.{read_call, is_writable}
-use Rattle.op_rv.specs.State.{State, Ending, Running, register}
-use Rattle.op_rv.specs.State as state
-use Rattle.op_rv.specs.Step.{step, after}
-use Rattle.op_rv.specs.declared.fault.FaultKind.{FaultKind}
-use Rattle.op_emu.specs.Acts.{Acts, MayFollow, Streams, Faults, Takes, streams, faults, state_of, moment, ending_of}
-use Rattle.op_link.specs.Image.{first_failing, start}
+use Rattle.op_correctness.proofs.Grows.{grows_from}
 use Rattle.op_emu.proofs.FillingLemmas.{bytes_append}
+use Rattle.op_emu.proofs.Gliding.{after-add}
+use Rattle.op_emu.proofs.RunsLemmas.{begins_step}
+use Rattle.op_emu.specs.Acts.{Acts, MayFollow, Streams, Faults, Takes, streams, faults, state_of, moment, ending_of, FailsToWrite, OutputFailed, WritesInPart, handed_bytes}
+use Rattle.op_emu.specs.Registers.{value_of}
 use Rattle.op_emu.specs.Runs.{moment_of, stop_of, DoesSteps, RunIs, IsLoaded}
 use Rattle.op_emu.specs.declared.hart.Hart.{Hart}
 use Rattle.op_emu.specs.declared.machine.Machine.{Machine}
 use Rattle.op_emu.specs.declared.stop.Stepped.{Stepped}
 use Rattle.op_emu.specs.declared.stop.Stepped.TheVariants as stepped
 use Rattle.op_emu.specs.declared.stop.Stop.TheVariants as stop
+use Rattle.op_link.specs.Image.{first_failing, start}
+use Rattle.op_rv.specs.Environment.{is_writable}
+use Rattle.op_rv.specs.State.{State, Ending, Running, register}
+use Rattle.op_rv.specs.State as state
+use Rattle.op_rv.specs.Step.{step, after, CallsRead}
+use Rattle.op_rv.specs.declared.fault.FaultKind.{FaultKind}
+use Rattle.op_tool.proofs.Calling.{wants_calls}
+use Rattle.op_tool.proofs.Saying.{front_of_front, reporting, says_behind}
 use Rattle.op_tool.specs.Effects.{Effect, effect, Intake, ReportIs, Says, WritesAll, line}
 use Rattle.op_tool.specs.ImageRun.{ComesTo, OwesImage, fault_line}
 use Rattle.op_tool.specs.declared.finish.Finish.{Finish}
 use Rattle.op_tool.specs.declared.finish.Finish.TheVariants as finish
-use Rattle.op_tool.proofs.After.{after-add}
-use Rattle.op_tool.proofs.Grows.{Grows, after_grows}
-use Rattle.op_tool.proofs.Saying.{front_of_front, reporting, says_behind}
 
 pub ended_last : (last : Stepped) (status : ℕ) → stop.Ended status ≡ stop_of last → last ≡ stepped.Ended status
 ended_last stepped.Went status e = cc
@@ -45,12 +49,17 @@ faulted_last (stepped.Fault other at) kind pc e = cc
 faulted_last stepped.ReadFault kind pc e = cc
 faulted_last stepped.WriteFault kind pc e = cc
 
-true_not_false : (b : Bool) → b ≡ true → b ≡ false → ⊥
-true_not_false b is is_not = cc
-
 preceded_twice : (first more : List ℕ) (i : Option (List ℕ)) → preceded first (preceded more i) ≡ preceded (first ++ more) i
 preceded_twice first more None = refl
 preceded_twice first more (Some rest) = ap Some (sym (append_assoc first more rest))
+
+-- one of the outputs failed
+write_failed : (hart : Hart) (told : Streams) (counts : Faults) → WritesInPart step hart hart told counts → OutputFailed counts
+write_failed hart told counts w = by w.fails
+  where
+    by : FailsToWrite (value_of hart.registers.words 10) (handed_bytes hart) told counts → OutputFailed counts
+    by (inl (is, front, same, rose)) = inl rose
+    by (inr (is, front, same, rose)) = inr rose
 
 -- how a call answers over an image that stands so after the last step that was allowed, and its last line
 abbrev pub answer_at : Ending → Finish
@@ -82,7 +91,7 @@ module _ (image : List ℕ) (most : ℕ) (old : Machine) (loaded : IsLoaded imag
         ended = hart.input_ended;
         bounded = takes.bounded;
         parts = takes.parts;
-        exhausted = takes.exhausted (λ ended. absurd (true_not_false old.hart.input_ended ended loaded.begins.asks));
+        exhausted = takes.exhausted (λ ended. absurd (both_ways old.hart.input_ended loaded.begins.asks ended));
       }
 
   -- the state of the image, whatever is left of its input
@@ -148,7 +157,7 @@ module _ (image : List ℕ) (most : ℕ) (old : Machine) (loaded : IsLoaded imag
       let last = line (codes "opc: read fault") in
       let all = acts.taken ++ reads.taken in
       let at : (left : List ℕ) → after m (start image (all ++ left)) ≡ state_of (moment does.hart Running) (reads.taken ++ left) acts.written acts.reported =
-      λ left. ap (λ bytes. after m (start image bytes)) (append_assoc acts.taken reads.taken left) ∙ state_at m does.hart Running _ acts (reads.taken ++ left) (λ ended. absurd (true_not_false does.hart.input_ended ended reads.wants.asks))
+      λ left. ap (λ bytes. after m (start image bytes)) (append_assoc acts.taken reads.taken left) ∙ state_at m does.hart Running _ acts (reads.taken ++ left) (λ ended. absurd (both_ways does.hart.input_ended reads.wants.asks ended))
       in
       says_behind (OwesImage image most r r') finish.ReadFault answer last i i' o o' e e' e'' r r' n n' c c' c'' (λ same. cc) le (record {
         intake = record {
@@ -169,8 +178,7 @@ module _ (image : List ℕ) (most : ℕ) (old : Machine) (loaded : IsLoaded imag
           refl,
           λ rest bytes. (
             record {
-              runs = ap (λ s. s.ending) (at rest);
-              reads = ap step (at rest) ∙ reads.reads (reads.taken ++ rest) acts.written acts.reported ∙ sym (ap read_call (at rest));
+              calls = subst CallsRead (sym (at rest)) (wants_calls does.hart _ reads (reads.taken ++ rest) acts.written acts.reported);
               from_input = ap (λ s. register s 10) (at rest) ∙ reads.wants.from_input;
               may = ap is_writable (at rest) ∙ reads.wants.may;
               taken = reads.taken;
@@ -184,23 +192,18 @@ module _ (image : List ℕ) (most : ℕ) (old : Machine) (loaded : IsLoaded imag
         errors = acts.errors;
       }) is
 
-  -- what has been written by the next step is a front of what is written in the end
-  grows_to_end : (m : ℕ) (s : State) → m < most → Grows (after (suc m) s) (after most s)
-  unfolding after
-  grows_to_end m s lt =
-      let e : most ≡ suc m + (most - suc m) = omega arith in
-      subst (λ t. Grows (after (suc m) s) t) (sym (after-add (suc m) (most - suc m) s) ∙ ap (λ n. after n s) (sym e)) (after_grows (most - suc m) (after (suc m) s))
-
+  -- an output that failed cut off one step
   pub run_failed : (new : Machine) (told : Streams) (counts : Faults) → RunIs most stop.WriteFault old new told counts → Says (OwesImage image most counts.input_before counts.input_after) finish.WriteFault told counts
   unfolding Says intake_of
-  run_failed new told counts (m, lt, acts, failed, counted) =
+  run_failed new told counts (m, lt, does) =
+      let acts = begins_step m old new told counts does in
       record {
         intake = intake_of acts.taken new.hart told acts.input;
         would = λ left may. (
             let input = acts.taken ++ left in
             let s = start image input in
             let last = after most s in
-            let grows = grows_to_end m s lt in
+            let grows = grows_from (suc m) most s (omega arith) in
             let begun = ap (after (suc m)) (sym (begins input)) in
             let out : last.output ≡ acts.written ++ grows.written =
             grows.output ∙ ap (λ xs. xs ++ grows.written) (ap (λ t. t.output) begun ∙ acts.writes left [] [] may.1)
@@ -213,9 +216,11 @@ module _ (image : List ℕ) (most : ℕ) (old : Machine) (loaded : IsLoaded imag
               done = effect_at most input last (last_line last.ending);
               is_owed = owes_at image most counts.input_before counts.input_after most input last.ending loaded.meets refl refl;
               over = refl;
+              more = grows.taken;
+              leaves = sym (ap (λ t. t.input) begun ∙ acts.leaves left [] [] may.1) ∙ grows.input;
               output = front_of_front told.output_before told.output_after acts.written grows.written last.output out acts.output;
               errors = front_of_front told.errors_before told.errors_after acts.reported (grows.reported ++ last_line last.ending) (last.errors ++ last_line last.ending) err acts.errors;
             }
             );
-        failed = failed;
+        failed = write_failed new.hart _ counts does.writes;
       }

@@ -15,7 +15,7 @@ run_owes_of words stored before now count count' most image name is (finish.Faul
 run_owes_of words stored before now count count' most image name is finish.Spent done owes = (is, owes)
 run_owes_of words stored before now count count' most image name is finish.ReadFault done owes = inr (is, owes)
 run_owes_of words stored before now count count' most image name is (finish.BadImage condition) done owes = inr (is, owes)
-run_owes_of words stored before now count count' most image name is finish.NoMemory done owes = owes
+run_owes_of words stored before now count count' most image name is finish.NoMemory done owes = (inr is, owes)
 run_owes_of words stored before now count count' most image name is finish.Usage done owes = absurd owes
 run_owes_of words stored before now count count' most image name is (finish.Refused rule place) done owes = absurd owes
 run_owes_of words stored before now count count' most image name is finish.WriteFault done owes = absurd owes

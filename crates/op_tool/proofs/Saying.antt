@@ -1,7 +1,9 @@
 -- What an answer says of the streams.
 use Rattle.std.proofs.Common.{◌≡◌, ◌≢◌, ℕ, ◌≤◌, inl, inr, Option, Some, None, List, [], ◌++◌, codes, decimal, false, refl, ap, sym, ◌∙◌, subst, arith, append_assoc}
 use Rattle.std.proofs.lemmas.List.{append-nil}
-use Rattle.op_base.specs.Outside.{appended, preceded, AppendsFront, Rose}
+use Rattle.op_base.proofs.Tests.{rose_since}
+use Rattle.op_base.specs.Outside.{appended, preceded, AppendsFront}
+use Rattle.op_emu.proofs.Stretches.{AppendsFront-after}
 use Rattle.op_emu.specs.Acts.{OutputFailed, Streams, Faults, streams, faults}
 use Rattle.op_base.specs.declared.rule.Refusal.{Refusal}
 use Rattle.op_tool.specs.Effects.{Effect, effect, OnlyReports, ReportIs, Says, WouldWrite, WritesAll, line}
@@ -40,26 +42,12 @@ pub appended_twice : (o : Option (List ℕ)) (first more : List ℕ) → appende
 appended_twice None first more = refl
 appended_twice (Some old) first more = ap Some (append_assoc old first more)
 
--- a front of more, behind all of what was first
-pub front_behind : (old middle new : Option (List ℕ)) (first more : List ℕ) → middle ≡ appended old first → AppendsFront middle more new → AppendsFront old (first ++ more) new
-front_behind old middle new first more all front =
-    record {
-      front = first ++ front.front;
-      rest = front.rest;
-      parts = append_assoc first front.front front.rest ∙ ap (λ xs. first ++ xs) front.parts;
-      appends = front.appends ∙ ap (λ o. appended o front.front) all ∙ appended_twice old first front.front;
-    }
-
-rose_earlier : (a b c : ℕ) → a ≤ b → Rose b c → Rose a c
-rose_earlier a b c le (inl more) = inl (omega arith)
-rose_earlier a b c le (inr most) = inr most
-
 -- two parts of a line, one after the other
 pub reports_behind : (finish answer : Finish) (first more : List ℕ) (o o' o'' : Option (List ℕ)) (c c' c'' : ℕ) → o' ≡ appended o first → c ≤ c' → ReportIs finish more answer o' o'' c' c'' → ReportIs finish (first ++ more) answer o o'' c c''
 reports_behind finish answer first more o o' o'' c c' c'' all le (inl (is, rest)) =
     inl (is, rest ∙ ap (λ s. appended s more) all ∙ appended_twice o first more)
 reports_behind finish answer first more o o' o'' c c' c'' all le (inr (is, front, rose)) =
-    inr (is, front_behind o o' o'' first more all front, rose_earlier c c' c'' le rose)
+    inr (is, AppendsFront-after o o' o'' first more all front, rose_since c c' c'' le rose)
 
 -- an answer that is no failure of an output
 says_all : (owed : Finish → Effect → Type 0) (finish : Finish) (told : Streams) (counts : Faults) → finish ≢ WriteFault → WritesAll (owed finish) told → Says owed finish told counts
@@ -100,10 +88,12 @@ says_behind owed finish answer bytes i i' o o' e e' e'' r r' n n' c c' c'' other
         done = effect all.steps (all.intake.taken ++ left) left all.out (all.err ++ bytes);
         is_owed = all.is_owed left may;
         over = refl;
+        more = [];
+        leaves = refl;
         output = all_in_front o o' all.out all.output;
-        errors = front_behind e e' e'' all.err bytes all.errors front;
+        errors = AppendsFront-after e e' e'' all.err bytes all.errors front;
       };
-      failed = inr (rose_earlier c c' c'' le rose);
+      failed = inr (rose_since c c' c'' le rose);
     })
 
 -- nothing was read and nothing written
@@ -137,13 +127,15 @@ map_all f g told leads all =
       errors = all.errors;
     }
 
-map_would : (f g : Finish → Effect → Type 0) (told : Streams) (input : List ℕ) → AreBytes input → ((finish : Finish) (done : Effect) → AreBytes done.input → f finish done → g finish done) → WouldWrite f told input → WouldWrite g told input
-map_would f g told input bytes leads would =
+map_would : (f g : Finish → Effect → Type 0) (told : Streams) (input left : List ℕ) → AreBytes input → ((finish : Finish) (done : Effect) → AreBytes done.input → f finish done → g finish done) → WouldWrite f told input left → WouldWrite g told input left
+map_would f g told input left bytes leads would =
     record {
       finish = would.finish;
       done = would.done;
       is_owed = leads would.finish would.done (subst AreBytes (sym would.over) bytes) would.is_owed;
       over = would.over;
+      more = would.more;
+      leaves = would.leaves;
       output = would.output;
       errors = would.errors;
     }
@@ -153,7 +145,7 @@ unfolding Says
 says_also f g WriteFault told counts leads part =
     record {
       intake = part.intake;
-      would = λ left may. map_would f g told (part.intake.taken ++ left) (bytes_append part.intake.taken left part.intake.bounded may.0) leads (part.would left may);
+      would = λ left may. map_would f g told (part.intake.taken ++ left) left (bytes_append part.intake.taken left part.intake.bounded may.0) leads (part.would left may);
       failed = part.failed;
     }
 says_also f g (Ended status) told counts leads all = map_all (f (Ended status)) (g (Ended status)) told (leads (Ended status)) all
@@ -207,6 +199,8 @@ says_written_in_part owed finish bytes i o o' e counts owes front failed =
         done = effect 0 left left bytes [];
         is_owed = owes left;
         over = refl;
+        more = [];
+        leaves = refl;
         output = front;
         errors = nothing_in_front e [];
       };

@@ -1,5 +1,5 @@
 -- What a compilation is refused by has a text.
-use Rattle.std.proofs.Common.{ℕ, inl, inr, Option, Err, List, map, refl, sym, subst}
+use Rattle.std.proofs.Common.{ℕ, Option, Err, List, map, refl}
 use Rattle.op_base.specs.Rule.{HasText, text_of_feature, text_of_rule}
 use Rattle.op_base.specs.declared.files.NamedFile.{NamedFile}
 use Rattle.op_base.specs.declared.rule.Refusal.{Refusal}
@@ -8,7 +8,7 @@ use Rattle.op_core.specs.declared.error.CheckError.TheVariants as check
 use Rattle.op_link.specs.declared.memory_map.Settings.{Settings}
 use Rattle.op_tree.specs.File.{file_of}
 use Rattle.op_units.proofs.Told.{told_walks}
-use Rattle.op_tool.specs.Compiles.{FailsAs, FailsToCheck, IsBroken, IsRefused, RefusalHasText, by_check, by_files, file_missing, not_compiled}
+use Rattle.op_tool.specs.Compiles.{FailsAs, FailsToCheck, IsBroken, RefusalHasText, by_check, by_files, file_missing}
 use Rattle.op_tool.specs.declared.compiler.CompileError.{CompileError}
 use Rattle.op_tool.specs.declared.compiler.CompileError.TheVariants.{Refused, ReadFault, Limit, NoMemory}
 
@@ -16,17 +16,9 @@ pub missing_told : HasText file_missing
 unfolding text_of_rule text_of_feature
 missing_told = refl
 
-not_compiled_told : HasText not_compiled.rule
-unfolding text_of_rule text_of_feature
-not_compiled_told = refl
-
 broken_told : (stored : Option (List NamedFile)) (name file : List ℕ) (refusal : Refusal) → IsBroken stored name file refusal → HasText refusal.rule
 broken_told stored name file refusal (by_files walks) = told_walks walks
 broken_told stored name file refusal (by_check forest loads checks is) = program_told (map file_of forest.trees) forest.order (Err (check.Refused refusal)) checks.means
-
-refused_told : (stored : Option (List NamedFile)) (name : List ℕ) (settings : Settings) (file : List ℕ) (refusal : Refusal) → IsRefused stored name settings file refusal → HasText refusal.rule
-refused_told stored name settings file refusal (inl is) = broken_told stored name file refusal is
-refused_told stored name settings file refusal (inr is) = subst (λ r. HasText r.rule) (sym is.1) not_compiled_told
 
 -- an error before or in the check
 pub check_told : (stored : Option (List NamedFile)) (name : List ℕ) (before after : ℕ) (error : CompileError) → FailsToCheck stored name before after error → RefusalHasText error
@@ -37,7 +29,7 @@ check_told stored name before after NoMemory is = tt
 
 -- an error of a compilation
 pub compile_told : (stored : Option (List NamedFile)) (name : List ℕ) (settings : Settings) (before after : ℕ) (error : CompileError) → FailsAs stored name settings before after error → RefusalHasText error
-compile_told stored name settings before after (Refused refusal file) is = refused_told stored name settings file refusal is
+compile_told stored name settings before after (Refused refusal file) is = broken_told stored name file refusal is
 compile_told stored name settings before after ReadFault is = tt
 compile_told stored name settings before after Limit is = tt
 compile_told stored name settings before after NoMemory is = tt

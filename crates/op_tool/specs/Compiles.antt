@@ -1,5 +1,5 @@
 -- What checking and compiling a file give. `stored` are the files, as far as they tell.
-use Rattle.std.specs.Prelude.{◌≡◌, ◌<◌, ◌≤◌, ℕ, ◌*◌, ◌⊎◌, false, Option, Result, Ok, Err, List, ⊤, map, slice_get, unwrap_or}
+use Rattle.std.specs.Prelude.{◌≡◌, ◌<◌, ◌≤◌, ℕ, ◌*◌, true, Option, Result, Ok, Err, List, ⊤, map, slice_get, unwrap_or}
 use Rattle.op_base.specs.Rule.{HasText}
 use Rattle.op_base.specs.Outside.{Rose}
 use Rattle.op_base.specs.declared.files.NamedFile.{NamedFile}
@@ -8,13 +8,11 @@ use Rattle.op_base.specs.declared.rule.Refusal.{Refusal}
 use Rattle.op_base.specs.declared.rule.Rule.{Rule}
 use Rattle.op_build.specs.Built.{IsBuilt, IsNotBuilt, program_layout}
 use Rattle.op_build.specs.declared.building.BuildError.{BuildError}
-use Rattle.op_build.specs.declared.building.BuildError.TheVariants as build
 use Rattle.op_check_unit.specs.Checking.{CheckIs}
 use Rattle.op_check_unit.specs.Programs.{program_means}
 use Rattle.op_check_unit.specs.Rules.{Obeys, ProgramBreaks}
 use Rattle.op_core.specs.Sound.{IsSound, IsSoundNesting}
 use Rattle.op_core.specs.declared.error.CheckError.{CheckError}
-use Rattle.op_core.specs.declared.error.CheckError.TheVariants as check
 use Rattle.op_core.specs.declared.program.Core.{Core}
 use Rattle.op_correctness.specs.Agrees.{Agrees}
 use Rattle.op_lower.specs.Lowers.{Lowers}
@@ -22,17 +20,19 @@ use Rattle.op_link.specs.Linking.{linked_size}
 use Rattle.op_link.specs.Memory.{most_linked}
 use Rattle.op_link.specs.declared.memory_map.Settings.{Settings}
 use Rattle.op_meaning.specs.Frames.{Program, program_of}
+use Rattle.op_mir.specs.Valid.{is_valid}
 use Rattle.op_mir.specs.declared.code.Mir.{Mir}
-use Rattle.op_plain.specs.Plain.{is_plain_program}
 use Rattle.op_select.specs.Selection.{select_of}
 use Rattle.op_sizes.specs.ProgramSize.{program_size}
 use Rattle.op_tool.specs.declared.compiler.CompileError.{CompileError}
 use Rattle.op_tool.specs.declared.compiler.CompileError.TheVariants.{Refused, ReadFault, Limit, NoMemory}
 use Rattle.op_tree.specs.File.{file_of}
 use Rattle.op_units.specs.declared.error.LoadError.{LoadError}
-use Rattle.op_units.specs.declared.error.LoadError.TheVariants as load
 use Rattle.op_units.specs.declared.forest.Forest.{Forest}
 use Rattle.op_units.specs.Walk.{GivesForest, Walks, refused}
+use Rattle.op_build.specs.declared.building.BuildError.TheVariants as build
+use Rattle.op_core.specs.declared.error.CheckError.TheVariants as check
+use Rattle.op_units.specs.declared.error.LoadError.TheVariants as load
 
 -- ---- programs
 
@@ -61,12 +61,13 @@ IsAccepted stored name = (core : Core) × IsTypedProgram stored name core
 abbrev pub meant : Core → Settings → Program
 meant core settings = program_of core (1024 * settings.stack)
 
--- The image is that of the program's managed code and of what the program gets, and it agrees with the program: over every input it writes and
+-- The image is that of the program's managed code, which is valid, and of what the program gets, and it agrees with the program: over every input it writes and
 -- ends as the program does, step by step and for ever. Its code, its constants and its initial globals take together no more bytes than the
 -- program's size.
 pub record IsImage (core : Core) (settings : Settings) (image : List ℕ) : Type 0 where
   pub mir : Mir
   pub lowers : Lowers core mir
+  pub valid : is_valid core mir ≡ true
   pub built : IsBuilt core mir settings image
   pub agrees : Agrees (meant core settings) image
   pub small : linked_size (select_of built.better) (program_layout core mir) settings ≤ program_size core
@@ -95,24 +96,12 @@ file_missing = record { number = 10; feature = 0 }
 abbrev pub main_start : Place
 main_start = record { file = 0; line = 1; col = 1 }
 
-abbrev pub not_compiled : Refusal
-not_compiled = record { rule = record { number = 13; feature = 38 }; place = main_start }
-
--- the managed code of a typed program has no image, for this cause
+-- the managed code of a typed program is valid and has no image, for this cause
 pub record FailsToBuild (core : Core) (settings : Settings) (error : BuildError) : Type 0 where
   pub mir : Mir
   pub lowers : Lowers core mir
+  pub valid : is_valid core mir ≡ true
   pub why : IsNotBuilt core mir settings error
-
--- It is not of the class that is compiled, or its low code may not be built: its size is more than an image may take.
-pub record IsNotCompiled (core : Core) (settings : Settings) : Type 0 where
-  pub why : (is_plain_program core ≡ false) ⊎ FailsToBuild core settings build.Unbuildable
-  pub size : most_linked < program_size core
-
--- the program breaks this rule first, in the file of this name, or it breaks none and is not compiled
-abbrev pub IsRefused : Option (List NamedFile) → List ℕ → Settings → List ℕ → Refusal → Type 0
-IsRefused stored name settings file refusal =
-    IsBroken stored name file refusal ⊎ (file ≡ name) × (refusal ≡ not_compiled) × (core : Core) × IsTypedProgram stored name core × IsNotCompiled core settings
 
 -- code, constants and initial globals of its image have more bytes than an image may have, which the program's size passes too
 pub record PassesLimit (core : Core) (settings : Settings) : Type 0 where
@@ -133,7 +122,7 @@ FailsToCheck stored name before after NoMemory = ⊤
 
 -- an error with its cause
 abbrev pub FailsAs : Option (List NamedFile) → List ℕ → Settings → ℕ → ℕ → CompileError → Type 0
-FailsAs stored name settings before after (Refused refusal file) = IsRefused stored name settings file refusal
+FailsAs stored name settings before after (Refused refusal file) = IsBroken stored name file refusal
 FailsAs stored name settings before after ReadFault = Rose before after
 FailsAs stored name settings before after Limit = IsTooLarge stored name settings
 FailsAs stored name settings before after NoMemory = ⊤
@@ -156,9 +145,9 @@ error_of (load.Refused refusal file) = Refused refusal file
 error_of load.ReadFault = ReadFault
 error_of load.NoMemory = NoMemory
 
--- why a typed program in this file has no image
-abbrev pub HasNoImage : Core → List ℕ → Settings → CompileError → Type 0
-HasNoImage core name settings (Refused refusal file) = (file ≡ name) × (refusal ≡ not_compiled) × IsNotCompiled core settings
-HasNoImage core name settings ReadFault = ⊥
-HasNoImage core name settings Limit = PassesLimit core settings
-HasNoImage core name settings NoMemory = ⊤
+-- why a typed program has no image: no rule is broken
+abbrev pub HasNoImage : Core → Settings → CompileError → Type 0
+HasNoImage core settings (Refused refusal file) = ⊥
+HasNoImage core settings ReadFault = ⊥
+HasNoImage core settings Limit = PassesLimit core settings
+HasNoImage core settings NoMemory = ⊤

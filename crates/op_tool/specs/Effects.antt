@@ -50,19 +50,21 @@ pub record WritesAll (owed : Effect → Type 0) (told : Streams) : Type 0 where
   pub output : told.output_after ≡ appended told.output_before out
   pub errors : told.errors_after ≡ appended told.errors_before err
 
--- over this input some other answer would owe what each output has got a front of
-pub record WouldWrite (owed : Finish → Effect → Type 0) (told : Streams) (input : List ℕ) : Type 0 where
+-- over this input, of which that is left, some other answer would owe what each output has got a front of, with no more of the input left
+pub record WouldWrite (owed : Finish → Effect → Type 0) (told : Streams) (input left : List ℕ) : Type 0 where
   pub finish : Finish
   pub done : Effect
   pub is_owed : owed finish done
   pub over : done.input ≡ input
+  pub more : List ℕ
+  pub leaves : left ≡ more ++ done.left
   pub output : AppendsFront told.output_before done.out told.output_after
   pub errors : AppendsFront told.errors_before done.err told.errors_after
 
--- an output failed: each has got a front of what it would have got, whatever is left of the input
+-- an output failed: each has got a front of what it would have got, and no more was taken of the input than would have been, whatever is left of it
 pub record WritesInPart (owed : Finish → Effect → Type 0) (told : Streams) (counts : Faults) : Type 0 where
   pub intake : Intake told
-  pub would : (left : List ℕ) → MayBeLeft intake left → WouldWrite owed told (intake.taken ++ left)
+  pub would : (left : List ℕ) → MayBeLeft intake left → WouldWrite owed told (intake.taken ++ left) left
   pub failed : OutputFailed counts
 
 -- an answer, by what each answer owes

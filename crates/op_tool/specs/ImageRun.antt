@@ -1,10 +1,10 @@
 -- What the run of an image owes.
 use Rattle.std.specs.Prelude.{◌≡◌, ℕ, ◌<◌, ◌≤◌, Some, None, List, [], ◌++◌, codes, decimal, length, IsTrue}
 use Rattle.op_base.specs.Outside.{Rose}
-use Rattle.op_rv.specs.Environment.{read_call, is_writable}
+use Rattle.op_rv.specs.Environment.{is_writable}
 use Rattle.op_rv.specs.State.{State, Ending, Running, register}
 use Rattle.op_rv.specs.State as state
-use Rattle.op_rv.specs.Step.{step, after}
+use Rattle.op_rv.specs.Step.{CallsRead, after}
 use Rattle.op_rv.specs.declared.fault.FaultKind.{FaultKind}
 use Rattle.op_rv.specs.declared.fault.FaultKind.TheVariants.{Fetch, Illegal, Load, Store, Call, Break}
 use Rattle.op_emu.specs.Filling.{AreBytes}
@@ -36,10 +36,9 @@ state_in image done = after done.steps (start image done.input)
 abbrev pub HasWritten : State → List ℕ → Effect → Type 0
 HasWritten s last done = (done.out ≡ s.output) × (done.err ≡ s.errors ++ last)
 
--- the next step is the call that reads from the input, and it wants more than the bytes before what is left
+-- the next step is the call that reads, from the input, and it wants more than the bytes before what is left
 pub record WantsBeyond (s : State) (left : List ℕ) : Type 0 where
-  pub runs : s.ending ≡ Running
-  pub reads : step s ≡ read_call s
+  pub calls : CallsRead s
   pub from_input : register s 10 ≡ 0
   pub may : IsTrue (is_writable s)
   pub taken : List ℕ

@@ -8,11 +8,11 @@ use Rattle.op_base.specs.declared.place.Place.{Place}
 use Rattle.op_base.specs.declared.rule.Refusal.{Refusal}
 use Rattle.op_base.specs.declared.rule.Rule.{Rule}
 use Rattle.op_core.specs.declared.program.Core.{Core}
-use Rattle.op_correctness.specs.Agrees.{EndsAsMeant}
+use Rattle.op_correctness.specs.Agrees.{EndsAsMeant, LooksAsMeant}
 use Rattle.op_link.specs.declared.memory_map.Settings.{Settings}
 use Rattle.op_listing.specs.Listing.{listing_of}
 use Rattle.op_command.specs.Command.{Asked, IsCommand, IsNoCommand}
-use Rattle.op_tool.specs.Compiles.{IsAccepted, IsBroken, IsRefused, IsTooLarge, Made, file_missing, main_start, meant}
+use Rattle.op_tool.specs.Compiles.{IsAccepted, IsBroken, IsTooLarge, Made, file_missing, main_start, meant}
 use Rattle.op_tool.specs.Effects.{Effect, OnlyReports, OnlyWrites, ReportIs, line}
 use Rattle.op_tool.specs.ImageRun.{OwesImage}
 use Rattle.op_command.specs.declared.command.Verb.{Verb}
@@ -95,15 +95,18 @@ OwesCheck now name answer done = (now.image ≡ []) × OwesChecked now name answ
 -- a file of this name that is not compiled
 abbrev pub OwesError : Call → List ℕ → Settings → Finish → Effect → Type 0
 OwesError now name settings (Refused rule place) done =
-    (file : List ℕ) × IsRefused now.stored name settings file (record { rule = rule; place = place }) × (now.image ≡ []) × OnlyRefuses file place rule done
+    (file : List ℕ) × IsBroken now.stored name file (record { rule = rule; place = place }) × (now.image ≡ []) × OnlyRefuses file place rule done
 OwesError now name settings ReadFault done = (now.image ≡ []) × OnlyFailsToRead now done
 OwesError now name settings Limit done = IsTooLarge now.stored name settings × (now.image ≡ []) × OnlyReports (line (codes "opc: image too large")) done
 OwesError now name settings NoMemory done = (now.image ≡ []) × OnlyReports (line (codes "opc: out of memory")) done
 OwesError now name settings _ done = ⊥
 
--- the program has ended with that status, and this is what it has written and left
+-- The program has ended with that status, and this is what it has written and left. Where the input could not be read, the program comes to a step
+-- that reads or looks at it: a program that does not never meets a fault of its input.
 abbrev pub Means : Core → Settings → Finish → Effect → Type 0
 Means core settings (Ended status) done = EndsAsMeant (meant core settings) done.input status done.out done.err done.left
+Means core settings ReadFault done =
+    (errors : List ℕ) × (done.err ≡ errors ++ line (codes "opc: read fault")) × LooksAsMeant (meant core settings) done.input done.out errors
 Means core settings _ done = Unit {0}
 
 -- an image that agrees with a program is never bad, and never faults
@@ -170,7 +173,7 @@ OwesRun now name most (BadImage condition) done =
     ⊎ RunsFile now name most (BadImage condition) done
 OwesRun now name most (Refused rule place) done =
     (now.image ≡ []) × (rule ≡ file_missing) × (place ≡ main_start) × IsMissing now.stored name × OnlyRefuses name place rule done
-OwesRun now name most NoMemory done = OnlyReports (line (codes "opc: out of memory")) done
+OwesRun now name most NoMemory done = ((now.image ≡ []) ⊎ IsFile now.stored name now.image) × OnlyReports (line (codes "opc: out of memory")) done
 OwesRun now name most Usage done = ⊥
 OwesRun now name most WriteFault done = ⊥
 OwesRun now name most Limit done = ⊥

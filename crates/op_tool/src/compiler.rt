@@ -1,12 +1,13 @@
 //! From a source file to its image.
-ghost use Rattle.std.specs.Prelude.{◌≡◌, ◌≤◌, IfErr, IfOk, IsTrue, true};
+ghost use Rattle.std.specs.Prelude.{◌≡◌, ◌<◌, ◌≤◌, IfErr, IfOk, IsTrue, false, true};
 ghost use Rattle.op_accepted.specs.Fit.{any_text};
 ghost use Rattle.op_core.specs.Sound.{IsSound, IsSoundNesting};
-ghost use Rattle.op_link.specs.Memory.{are_in_range};
-ghost use Rattle.op_plain.specs.Plain.{is_plain_by};
+ghost use Rattle.op_link.specs.Memory.{are_in_range, most_linked};
+ghost use Rattle.op_plain.specs.Plain.{is_plain_by, is_plain_program};
+ghost use Rattle.op_sizes.specs.ProgramSize.{program_size};
 ghost use Rattle.op_tool.specs.Compiles.{FailsAs, FailsToCheck, HasNoImage, IsImage, RefusalHasText, IsTypedProgram, Made, RefusesBy, name_at};
 
-use op_base::{Files, NoMemory, Place, Refusal, Rule, Text};
+use op_base::{Files, NoMemory, Place, Refusal, Text};
 use op_build::{BuildError, build};
 use op_core::{CheckError, Core};
 use op_link::Settings;
@@ -21,15 +22,6 @@ pub(crate) const MAIN_START: Place = Place {
     file: 0,
     line: 1,
     col: 1,
-};
-
-/// A program breaks no rule, and its size is more than an image may take: it is not of the class that is compiled, or its low code may not be built.
-const NOT_COMPILED: Refusal = Refusal {
-    rule: Rule {
-        number: 13,
-        feature: 38,
-    },
-    place: MAIN_START,
 };
 
 /// Why a file was not compiled.
@@ -70,9 +62,8 @@ impl From<LoadError> for CompileError {
 
 /// The image of the program in this file, which does what the program means with these sizes of heap and stack.
 ///
-/// `Refused` tells the first rule that the program breaks, as `load` and then `check` have them. It also comes of a program that breaks none, but only
-/// where its size passes 67,108,864 bytes: it has a text of 2^31 bytes, or its global variables have no room. `Limit` comes where code, constants and
-/// initial globals would take more than 67,108,864 bytes, so only where its size does too.
+/// `Refused` tells the first rule that the program breaks, as `load` and then `check` have them. `Limit` comes where code, constants and initial
+/// globals would take more than 67,108,864 bytes, so only where the program's size does too.
 pub fn compile<F: Files>(
     alloc: Global,
     files: &mut F,
@@ -87,7 +78,7 @@ pub fn compile<F: Files>(
     ensures unchanged { F.stored files.new ≡ F.stored files.old }
 {
     let core = checked(alloc, files, main)?;
-    image_of(alloc, main, core, settings)
+    image_of(alloc, core, settings)
 }
 
 /// The typed form of the program in this file, or the first rule that it breaks, as `load` and then `check` have them.
@@ -114,27 +105,32 @@ pub(crate) fn checked<F: Files>(
     }
 }
 
-/// The image of a typed program, which is in this file.
-fn image_of(
-    alloc: Global,
-    main: &str,
-    core: Core,
-    settings: &Settings,
-) -> Result<Vec<u8>, CompileError>
+/// Whether each text of a program that breaks no rule has less than 2^31 bytes, so that a number of 32 bits counts them. A literal has at most 65,535,
+/// and so has what is made of literals; where a program had a longer text, its size would pass 67,108,864 bytes.
+fn has_short_texts(core: &Core) -> bool
+    requires { is_plain_by any_text core.now ≡ true }
+    ensures short { result ≡ is_plain_program core.now }
+    ensures long { result ≡ false → most_linked < program_size core.now }
+{
+    is_plain(core)
+}
+
+/// The image of a typed program. What it has of numbers beyond 32 bits is want of memory.
+fn image_of(alloc: Global, core: Core, settings: &Settings) -> Result<Vec<u8>, CompileError>
     requires sound { IsSound core × IsSoundNesting core }
     requires fit { is_plain_by any_text core ≡ true }
     requires settings { IsTrue (are_in_range settings.now) }
     ensures made { IfOk result (λ image. IsImage core settings.now image.items) }
-    ensures failed { IfErr result (HasNoImage core main.now settings.now) }
+    ensures failed { IfErr result (HasNoImage core settings.now) }
 {
-    if !is_plain(&core) {
-        return Err(refused(alloc, main, NOT_COMPILED));
+    if !has_short_texts(&core) {
+        return Err(CompileError::NoMemory);
     }
     let mir = middle(alloc, &core)?;
     match build(alloc, core, mir, settings) {
         Ok(image) => Ok(image),
         Err(BuildError::Limit) => Err(CompileError::Limit),
-        Err(BuildError::Unbuildable) => Err(refused(alloc, main, NOT_COMPILED)),
+        Err(BuildError::Unbuildable) => unreachable!(),
         Err(BuildError::NoMemory) => Err(CompileError::NoMemory),
     }
 }
@@ -147,13 +143,6 @@ fn name_at<'a>(forest: &'a Forest, main: &'a [u8], place: Place) -> &'a [u8]
         Some(name) => name.as_slice(),
         None => main,
     }
-}
-
-/// The refusal of the main file.
-fn refused(alloc: Global, main: &str, refusal: Refusal) -> CompileError
-    ensures { RefusesBy main.now refusal result }
-{
-    refused_in(alloc, main.as_bytes(), refusal)
 }
 
 /// The refusal of a file.

@@ -6,9 +6,11 @@ mod driver;
 mod finish;
 mod image_run;
 mod report;
+mod theorems;
 
 pub use compiler::{CompileError, compile};
 pub use driver::tool;
 pub use finish::{Finish, status};
 pub use op_listing::listing;
 pub use report::report_no_memory;
+pub use theorems::one_outcome;

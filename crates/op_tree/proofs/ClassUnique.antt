@@ -1,9 +1,11 @@
 -- At most one class, and at most one interface, stands at the front of a list of tokens before a semicolon.
-use Rattle.std.proofs.Common.{◌≡◌, ℕ, Bool, true, false, List, [], ◌∷◌, codes, Option, Some, None, refl, sym, ap, ◌∙◌, subst}
+use Rattle.std.proofs.Common.{◌≡◌, ℕ, Bool, true, false, List, [], ◌∷◌, codes, Option, Some, None, refl, sym, ap, ◌∙◌, subst, ap₂}
+use Rattle.std.proofs.lemmas.Option.{same_Some}
+use Rattle.op_base.proofs.Tests.{ap₃}
 use Rattle.op_scan.specs.declared.token.TokenKind.{TokenKind}
 use Rattle.op_scan.specs.declared.token.TokenKind.TheVariants as kind
 use Rattle.op_tree.proofs.DenoterUnique.{names_begin, unique_bracketed_names, unique_denoter, unique_names}
-use Rattle.op_tree.proofs.ExpressionUnique.{true_false, false_true, Begins, is_comma, is_colon, behind, some_same, same2, same3}
+use Rattle.op_tree.proofs.ExpressionUnique.{true_false, false_true, Begins, is_comma, is_colon, behind}
 use Rattle.op_tree.proofs.MethodUnique.{also, apart, begins_heading, begins_methods, heading_no_identifier, method_begins, methods_begin, no_directive, unique_method, unique_methods}
 use Rattle.op_tree.proofs.StatementUnique.{both, differ, is_end, is_identifier, is_semicolon, unique_name, same4}
 use Rattle.op_tree.specs.Declaration.{Class, Interface, Member, fields, method, property, Method, Property, Section}
@@ -19,7 +21,7 @@ use Rattle.op_tree.specs.declared.position.Position.{Position}
 
 -- ---- properties
 
-accessor_stops : {word : List ℕ} {n : Option Name} {ks r : List Terminal} → IsAccessor word n ks r → StopsDenoter r → StopsDenoter ks
+pub accessor_stops : {word : List ℕ} {n : Option Name} {ks r : List Terminal} → IsAccessor word n ks r → StopsDenoter r → StopsDenoter ks
 accessor_stops has_no_accessor h = h
 accessor_stops (has_accessor w n) h = record { operator = refl; selector = refl; range = refl }
 
@@ -43,7 +45,7 @@ unique_accessors {b' = b1} {p' = q} {r' = z} (has_accessor v n) w (has_accessor 
     let s = unique_accessor w (subst (λ x. IsAccessor (codes "write") b1 x (kind.Semicolon at q ∷ z)) (sym u.1) w') in
     (ap Some u.0, s.0, s.1)
 
-abbrev property_with : Name → Denoter → Option Name → Option Name → Property
+abbrev pub property_with : Name → Denoter → Option Name → Option Name → Property
 property_with n t a b = record { name = n; denoter = t; read = a; write = b }
 
 pub semicolon_stops : (p : Position) (r : List Terminal) → StopsDenoter (kind.Semicolon at p ∷ r)
@@ -130,7 +132,7 @@ record EndsMembers (r : List Terminal) : Type 0 where
   directive : NoDirective r
 
 -- a name with a comma or a colon behind it is no directive
-names_no_directive : {ns : List Name} {p : Position} {ks r : List Terminal} → AreNames ns ks (kind.Colon at p ∷ r) → NoDirective ks
+pub names_no_directive : {ns : List Name} {p : Position} {ks r : List Terminal} → AreNames ns ks (kind.Colon at p ∷ r) → NoDirective ks
 names_no_directive (are_one_name is_name) w ws z f = elim f [ ]
 names_no_directive (are_names is_name b) w ws z f = elim f [ ]
 
@@ -144,7 +146,7 @@ unique_member : {d d' : ℕ} {a a' : Member} {ks r r' : List Terminal} → IsMem
 unique_member (are_fields ns t) (are_fields {d = y} {t = t1} {q = q} {r = z} ns' t') h h' =
     let u = unique_names ns ns' refl refl in
     let v = unique_denoter t (subst (λ x. IsDenoter y t1 x (kind.Semicolon at q ∷ z)) (sym (ap behind u.1)) t') (semicolon_stops _ _) (semicolon_stops _ _) in
-    (same2 (λ x y. fields (record { names = x; denoter = y })) u.0 v.0, ap behind v.1)
+    (ap₂ (λ x y. fields (record { names = x; denoter = y })) u.0 v.0, ap behind v.1)
 unique_member {ks = ks} (are_fields ns t) (is_class_method a) h h' = both is_identifier ks (names_begin ns) (apart heading_no_identifier ks (method_begins a))
 unique_member (are_fields ns t) (is_class_property (is_property n s v w)) h h' = false_true (names_begin ns)
 unique_member {ks = ks} (is_class_method a) (are_fields ns t) h h' = both is_identifier ks (names_begin ns) (apart heading_no_identifier ks (method_begins a))
@@ -165,7 +167,7 @@ unique_members (are_members a more) are_no_members h h' = absurd (h'.member a)
 unique_members (are_members a more) (are_members {d = y} {as_ = as1} {r = z} a' more') h h' =
     let u = unique_member a a' (members_no_directive more h.directive) (members_no_directive more' h'.directive) in
     let v = unique_members more (subst (λ x. AreMembers y as1 x z) (sym u.1) more') h h' in
-    (same2 (λ x y. x ∷ y) u.0 v.0, v.1)
+    (ap₂ (λ x y. x ∷ y) u.0 v.0, v.1)
 
 -- ---- sections
 
@@ -192,7 +194,7 @@ sections_end_members (are_sections v as_ ss) e =
     let b = members_begin as_ (sections_begin ss e) in
     record { member = λ a. word_no_member b a; directive = word_no_directive b }
 
-abbrev section_with : Option Visibility → List Member → Section
+abbrev pub section_with : Option Visibility → List Member → Section
 section_with v as_ = record { visibility = v; members = as_ }
 
 unique_sections : {d d' : ℕ} {ss ss' : List Section} {ks r r' : List Terminal} → AreSections d ss ks r → AreSections d' ss' ks r' → Begins is_end r → Begins is_end r' → (ss ≡ ss') × (r ≡ r')
@@ -202,7 +204,7 @@ unique_sections (are_sections v as_ ss) are_no_sections e e' = false_true e'
 unique_sections (are_sections v as_ ss) (are_sections {d = y} {ss = s1} {r = z} v' as' ss') e e' =
     let u = unique_members as_ as' (sections_end_members ss e) (sections_end_members ss' e') in
     let t = unique_sections ss (subst (λ x. AreSections y s1 x z) (sym u.1) ss') e e' in
-    (same3 (λ x y z. section_with (Some x) y ∷ z) (some_same (sym v ∙ v')) u.0 t.0, t.1)
+    (ap₃ (λ x y z. section_with (Some x) y ∷ z) (same_Some _ _ (sym v ∙ v')) u.0 t.0, t.1)
 
 -- ---- classes
 
@@ -215,13 +217,13 @@ unique_body (begins_with_members (are_members a as_) ss) (begins_with_visibility
 unique_body (begins_with_members as_ ss) (begins_with_members {d = y} {ss = s1} {p = p} {r = z} as' ss') =
     let u = unique_members as_ as' (sections_end_members ss refl) (sections_end_members ss' refl) in
     let v = unique_sections ss (subst (λ x. AreSections y s1 x (kind.End at p ∷ z)) (sym u.1) ss') refl refl in
-    (same2 (λ x y. section_with None x ∷ y) u.0 v.0, ap behind v.1)
+    (ap₂ (λ x y. section_with None x ∷ y) u.0 v.0, ap behind v.1)
 
 body_begins : {d : ℕ} {ss : List Section} {ks r : List Terminal} → IsClassBody d ss ks r → Begins stands_in_class ks
 body_begins (begins_with_visibility ss) = sections_begin ss refl
 body_begins (begins_with_members (are_members a as_) ss) = member_begins a
 
-abbrev class_with : List Name → List Section → Class
+abbrev pub class_with : List Name → List Section → Class
 class_with ns ss = record { ancestors = ns; sections = ss }
 
 pub no_body : {A : Type 0} {d : ℕ} {ss : List Section} {p : Position} {ks r s : List Terminal} → IsClassBody d ss ks r → kind.Semicolon at p ∷ s ≡ ks → A
@@ -243,7 +245,7 @@ unique_class (has_list_and_body ns b) (has_list_alone ns') = no_body b (sym (uni
 unique_class {p' = q} {r' = z} (has_list_and_body ns b) (has_list_and_body {d = y} {ss = s1} ns' b') =
     let u = unique_bracketed_names ns ns' in
     let v = unique_body b (subst (λ x. IsClassBody y s1 x (kind.Semicolon at q ∷ z)) (sym u.1) b') in
-    (same2 class_with u.0 v.0, ap behind v.1)
+    (ap₂ class_with u.0 v.0, ap behind v.1)
 
 -- ---- interfaces
 
@@ -261,7 +263,7 @@ methods_no_bracket : (k : TokenKind) → begins_methods k ≡ true → is_bracke
 methods_no_bracket kind.OpenBracket h = false_true h
 methods_no_bracket other h = refl
 
-methods_no_semicolon : (k : TokenKind) → begins_methods k ≡ true → is_semicolon k ≡ false
+pub methods_no_semicolon : (k : TokenKind) → begins_methods k ≡ true → is_semicolon k ≡ false
 methods_no_semicolon kind.Semicolon h = false_true h
 methods_no_semicolon other h = refl
 
@@ -284,7 +286,7 @@ no_list has_identifier as_ = refl
 one_same : {n n' : Name} → n ∷ [] ≡ n' ∷ [] → n ≡ n'
 one_same e = cc
 
-abbrev interface_with : Option Name → Option (List ℕ) → List Method → Interface
+abbrev pub interface_with : Option Name → Option (List ℕ) → List Method → Interface
 interface_with n t as_ = record { ancestor = n; identifier = t; methods = as_ }
 
 -- a semicolon is no list of methods
@@ -298,7 +300,7 @@ pub unique_interface : {d d' : ℕ} {i i' : Interface} {p p' : Position} {ks r r
 unique_interface {p' = w} {r' = z} (has_methods_alone t as_) (has_methods_alone {d = y} {as_ = a1} {q = q} t' as') =
     let u = unique_identifier t t' (no_bracket as_) (no_bracket as') in
     let v = unique_methods as_ (subst (λ x. AreMethods y a1 x (kind.End at q ∷ kind.Semicolon at w ∷ z)) (sym u.1) as') refl refl in
-    (same2 (interface_with None) u.0 v.0, ap behind (ap behind v.1))
+    (ap₂ (interface_with None) u.0 v.0, ap behind (ap behind v.1))
 unique_interface (has_methods_alone t as_) (has_ancestor_alone (are_bracketed_names n) t') = true_false (no_list t as_)
 unique_interface (has_methods_alone t as_) (has_ancestor_and_methods (are_bracketed_names n) t' as') = true_false (no_list t as_)
 unique_interface (has_ancestor_alone (are_bracketed_names n) t') (has_methods_alone t as_) = true_false (no_list t as_)
@@ -306,7 +308,7 @@ unique_interface (has_ancestor_and_methods (are_bracketed_names n) t' as') (has_
 unique_interface {p' = w} {r' = z} (has_ancestor_alone n t) (has_ancestor_alone {d = y} {text = t1} n' t') =
     let u = unique_bracketed_names n n' in
     let v = unique_identifier t (subst (λ x. IsIdentifier y t1 x (kind.Semicolon at w ∷ z)) (sym u.1) t') refl refl in
-    (same2 (λ x y. interface_with (Some x) y []) (one_same u.0) v.0, ap behind v.1)
+    (ap₂ (λ x y. interface_with (Some x) y []) (one_same u.0) v.0, ap behind v.1)
 unique_interface (has_ancestor_alone n t) (has_ancestor_and_methods {d = y} {text = t1} {m1 = z} n' t' as') =
     let u = unique_bracketed_names n n' in
     let v = unique_identifier t (subst (λ x. IsIdentifier y t1 x z) (sym u.1) t') refl (no_bracket as') in
@@ -319,4 +321,4 @@ unique_interface {p' = w} {r' = z} (has_ancestor_and_methods n t as_) (has_ances
     let u = unique_bracketed_names n n' in
     let v = unique_identifier t (subst (λ x. IsIdentifier y t1 x z1) (sym u.1) t') (no_bracket as_) (no_bracket as') in
     let b = unique_methods as_ (subst (λ x. AreMethods y a1 x (kind.End at q ∷ kind.Semicolon at w ∷ z)) (sym v.1) as') refl refl in
-    (same3 (λ x. interface_with (Some x)) (one_same u.0) v.0 b.0, ap behind (ap behind b.1))
+    (ap₃ (λ x. interface_with (Some x)) (one_same u.0) v.0 b.0, ap behind (ap behind b.1))

@@ -1,10 +1,11 @@
 -- At most one list of declarations stands at the front of a list of tokens before what is none.
-use Rattle.std.proofs.Common.{◌≡◌, ℕ, Bool, true, false, List, [], ◌∷◌, codes, Option, Some, None, refl, sym, ap, subst}
+use Rattle.std.proofs.Common.{◌≡◌, ℕ, Bool, true, false, List, [], ◌∷◌, codes, Option, Some, None, refl, sym, ap, subst, ap₂}
+use Rattle.op_base.proofs.Tests.{ap₃}
 use Rattle.op_scan.specs.declared.token.TokenKind.{TokenKind}
 use Rattle.op_scan.specs.declared.token.TokenKind.TheVariants as kind
 use Rattle.op_tree.proofs.ClassUnique.{no_body, no_bracket, no_methods_here, semicolon_stops, unique_class, unique_identifier, unique_interface}
 use Rattle.op_tree.proofs.DenoterUnique.{names_begin, structure_begins, is_structure, unique_denoter, unique_initial, unique_names}
-use Rattle.op_tree.proofs.ExpressionUnique.{true_false, false_true, Begins, chain_begins, behind, same2, same3}
+use Rattle.op_tree.proofs.ExpressionUnique.{true_false, false_true, Begins, chain_begins, behind}
 use Rattle.op_tree.proofs.HeadingUnique.{unique_heading, unique_optional_type}
 use Rattle.op_tree.proofs.MethodUnique.{also, apart, begins_heading, heading_begins, method_begins, no_directive, unique_directives, unique_method, heading_no_identifier}
 use Rattle.op_tree.proofs.StatementUnique.{both, differ, is_identifier, unique_block, unique_name}
@@ -24,7 +25,7 @@ use Rattle.op_tree.specs.declared.position.Position.{Position}
 
 -- ---- lists that go on with a name
 
-identifier_continues : (k : TokenKind) → continues_declarations k ≡ false → is_identifier k ≡ false
+pub identifier_continues : (k : TokenKind) → continues_declarations k ≡ false → is_identifier k ≡ false
 identifier_continues (kind.Identifier text) h = true_false h
 identifier_continues other h = refl
 
@@ -32,12 +33,12 @@ no_name_here : (r : List Terminal) → EndsDeclarations r → IsNot is_identifie
 no_name_here [] h = tt
 no_name_here (t ∷ r) h = identifier_continues t.kind h
 
-name_begins : {n : Name} {ks r : List Terminal} → IsName n ks r → Begins is_identifier ks
+pub name_begins : {n : Name} {ks r : List Terminal} → IsName n ks r → Begins is_identifier ks
 name_begins is_name = refl
 
 -- ---- constants
 
-abbrev constant_with : Name → Option Denoter → Initial → Constant
+abbrev pub constant_with : Name → Option Denoter → Initial → Constant
 constant_with n t i = record { name = n; denoter = t; value = i }
 
 unique_constant : {d d' : ℕ} {c c' : Constant} {ks r r' : List Terminal} → IsConstant d c ks r → IsConstant d' c' ks r' → (c ≡ c') × (r ≡ r')
@@ -45,7 +46,7 @@ unique_constant (is_constant n t i) (is_constant {d = y} {t = t1} {i = i1} {p = 
     let u = unique_name n n' in
     let v = unique_optional_type t (subst (λ x. IsOptionalType y t1 x (kind.Equal at p1 ∷ z)) (sym u.1) t') (record { operator = refl; selector = refl; range = refl }) (record { operator = refl; selector = refl; range = refl }) refl refl in
     let b = unique_initial i (subst (λ x. IsInitial y i1 x (kind.Semicolon at q1 ∷ w)) (sym (ap behind v.1)) i') (refl, refl) (refl, refl) in
-    (same3 constant_with u.0 v.0 b.0, ap behind b.1)
+    (ap₃ constant_with u.0 v.0 b.0, ap behind b.1)
 
 constants_begin : {d : ℕ} {cs : List Constant} {ks r : List Terminal} → AreConstants d cs ks r → Begins is_identifier ks
 constants_begin (is_one_constant (is_constant n t i)) = name_begins n
@@ -60,11 +61,11 @@ unique_constants (are_constants c more) (is_one_constant c') h h' = differ is_id
 unique_constants (are_constants c more) (are_constants {d = y} {cs = c1} {r = z} c' more') h h' =
     let u = unique_constant c c' in
     let v = unique_constants more (subst (λ x. AreConstants y c1 x z) (sym u.1) more') h h' in
-    (same2 (λ x y. x ∷ y) u.0 v.0, v.1)
+    (ap₂ (λ x y. x ∷ y) u.0 v.0, v.1)
 
 -- ---- variables
 
-first_value_stops : {d : ℕ} {i : Option Initial} {p : Position} {ks r : List Terminal} → IsFirstValue d i ks (kind.Semicolon at p ∷ r) → StopsDenoter ks
+pub first_value_stops : {d : ℕ} {i : Option Initial} {p : Position} {ks r : List Terminal} → IsFirstValue d i ks (kind.Semicolon at p ∷ r) → StopsDenoter ks
 first_value_stops has_no_first_value = semicolon_stops _ _
 first_value_stops (has_first_value i) = record { operator = refl; selector = refl; range = refl }
 
@@ -74,7 +75,7 @@ unique_first_value (has_first_value i) (has_first_value i') =
     let u = unique_initial i i' (refl, refl) (refl, refl) in
     (ap Some u.0, ap behind u.1)
 
-abbrev variables_with : List Name → Denoter → Option Initial → Variables
+abbrev pub variables_with : List Name → Denoter → Option Initial → Variables
 variables_with ns t i = record { names = ns; denoter = t; value = i }
 
 unique_variables_of_one_type : {d d' : ℕ} {v v' : Variables} {ks r r' : List Terminal} → AreVariablesOfOneType d v ks r → AreVariablesOfOneType d' v' ks r' → (v ≡ v') × (r ≡ r')
@@ -82,7 +83,7 @@ unique_variables_of_one_type (are_variables_of_one_type ns t i) (are_variables_o
     let u = unique_names ns ns' refl refl in
     let v = unique_denoter t (subst (λ x. IsDenoter y t1 x z) (sym (ap behind u.1)) t') (first_value_stops i) (first_value_stops i') in
     let b = unique_first_value i (subst (λ x. IsFirstValue y i1 x (kind.Semicolon at q1 ∷ w)) (sym v.1) i') in
-    (same3 variables_with u.0 v.0 b.0, b.1)
+    (ap₃ variables_with u.0 v.0 b.0, b.1)
 
 variables_begin : {d : ℕ} {vs : List Variables} {ks r : List Terminal} → AreVariables d vs ks r → Begins is_identifier ks
 variables_begin (is_one_variables (are_variables_of_one_type ns t i)) = names_begin ns
@@ -97,7 +98,7 @@ unique_variables (are_variables v more) (is_one_variables v') h h' = differ is_i
 unique_variables (are_variables v more) (are_variables {d = y} {vs = v1} {r = z} v' more') h h' =
     let u = unique_variables_of_one_type v v' in
     let w = unique_variables more (subst (λ x. AreVariables y v1 x z) (sym u.1) more') h h' in
-    (same2 (λ x y. x ∷ y) u.0 w.0, w.1)
+    (ap₂ (λ x y. x ∷ y) u.0 w.0, w.1)
 
 -- ---- types
 
@@ -107,17 +108,17 @@ begins_object kind.Class = true
 begins_object kind.Interface = true
 begins_object other = false
 
-expression_no_object : (k : TokenKind) → begins_expression k ≡ true → begins_object k ≡ false
+pub expression_no_object : (k : TokenKind) → begins_expression k ≡ true → begins_object k ≡ false
 expression_no_object kind.Class h = false_true h
 expression_no_object kind.Interface h = false_true h
 expression_no_object other h = refl
 
-structure_no_object : (k : TokenKind) → is_structure k ≡ true → begins_object k ≡ false
+pub structure_no_object : (k : TokenKind) → is_structure k ≡ true → begins_object k ≡ false
 structure_no_object kind.Class h = false_true h
 structure_no_object kind.Interface h = false_true h
 structure_no_object other h = refl
 
-denoter_no_object : {d : ℕ} {t : Denoter} {ks r : List Terminal} → IsDenoter d t ks r → IsNot begins_object ks
+pub denoter_no_object : {d : ℕ} {t : Denoter} {ks r : List Terminal} → IsDenoter d t ks r → IsNot begins_object ks
 denoter_no_object (is_named (is_unqualified is_name)) = refl
 denoter_no_object (is_named (is_qualified is_name b)) = refl
 denoter_no_object is_string = refl
@@ -188,14 +189,14 @@ unique_definition (is_interface i) (is_interface i') =
     let u = unique_interface i i' in
     (ap interface u.0, u.1)
 
-abbrev type_with : Name → TypeDefinition → TypeDeclaration
+abbrev pub type_with : Name → TypeDefinition → TypeDeclaration
 type_with n t = record { name = n; definition = t }
 
 unique_type_declaration : {d d' : ℕ} {t t' : TypeDeclaration} {ks r r' : List Terminal} → IsTypeDeclaration d t ks r → IsTypeDeclaration d' t' ks r' → (t ≡ t') × (r ≡ r')
 unique_type_declaration (is_type_declaration n t) (is_type_declaration {d = y} {t = t1} {q = q1} {r = w} n' t') =
     let u = unique_name n n' in
     let v = unique_definition t (subst (λ x. IsDefinition y t1 x (kind.Semicolon at q1 ∷ w)) (sym (ap behind u.1)) t') in
-    (same2 type_with u.0 v.0, v.1)
+    (ap₂ type_with u.0 v.0, v.1)
 
 types_begin : {d : ℕ} {ts : List TypeDeclaration} {ks r : List Terminal} → AreTypes d ts ks r → Begins is_identifier ks
 types_begin (is_one_type (is_type_declaration n t)) = name_begins n
@@ -210,7 +211,7 @@ unique_types (are_types t more) (is_one_type t') h h' = differ is_identifier (un
 unique_types (are_types t more) (are_types {d = y} {ts = t1} {r = z} t' more') h h' =
     let u = unique_type_declaration t t' in
     let v = unique_types more (subst (λ x. AreTypes y t1 x z) (sym u.1) more') h h' in
-    (same2 (λ x y. x ∷ y) u.0 v.0, v.1)
+    (ap₂ (λ x y. x ∷ y) u.0 v.0, v.1)
 
 -- ---- constants, types or variables
 
@@ -243,7 +244,7 @@ heading_continues kind.Constructor h = refl
 heading_continues kind.Destructor h = refl
 heading_continues other h = false_true h
 
-heading_no_data : (k : TokenKind) → begins_heading k ≡ true → begins_data k ≡ false
+pub heading_no_data : (k : TokenKind) → begins_heading k ≡ true → begins_data k ≡ false
 heading_no_data kind.Procedure h = refl
 heading_no_data kind.Function h = refl
 heading_no_data kind.Constructor h = refl
@@ -288,11 +289,11 @@ unique_interface_part {ks = ks} (heading_in_interface a es) (data_in_interface e
 unique_interface_part {r = r} {r' = r'} (data_in_interface e es) (data_in_interface {d = y} {es = e1} {r = z} e' es') h h' =
     let u = unique_data e e' (interface_no_identifier es (no_name_here r h)) (interface_no_identifier es' (no_name_here r' h')) in
     let v = unique_interface_part es (subst (λ x. AreInterfaceDeclarations y e1 x z) (sym u.1) es') h h' in
-    (same2 declarations u.0 v.0, v.1)
+    (ap₂ declarations u.0 v.0, v.1)
 unique_interface_part {r = r} {r' = r'} (heading_in_interface {m = m} a es) (heading_in_interface {d = y} {es = e1} {m = m1} {r = z} a' es') h h' =
     let u = unique_method a a' (no_directive m (interface_no_identifier es (no_name_here r h))) (no_directive m1 (interface_no_identifier es' (no_name_here r' h'))) in
     let v = unique_interface_part es (subst (λ x. AreInterfaceDeclarations y e1 x z) (sym u.1) es') h h' in
-    (same2 (λ x y. declarations (heading x) y) u.0 v.0, v.1)
+    (ap₂ (λ x y. declarations (heading x) y) u.0 v.0, v.1)
 
 -- ---- routines
 
@@ -336,24 +337,24 @@ mutual
   unique_declarations {r = r} {r' = r'} (data_declared e es) (data_declared {d = y} {es = e1} {r = z} e' es') h h' =
       let u = unique_data e e' (declarations_no_identifier es (no_name_here r h)) (declarations_no_identifier es' (no_name_here r' h')) in
       let v = unique_declarations es (subst (λ x. AreDeclarations y e1 x z) (sym u.1) es') h h' in
-      (same2 declarations u.0 v.0, v.1)
+      (ap₂ declarations u.0 v.0, v.1)
   unique_declarations (routine_declared e es) (routine_declared {d = y} {es = e1} {r = z} e' es') h h' =
       let u = unique_routine e e' in
       let v = unique_declarations es (subst (λ x. AreDeclarations y e1 x z) (sym u.1) es') h h' in
-      (same2 declarations u.0 v.0, v.1)
+      (ap₂ declarations u.0 v.0, v.1)
 
   unique_routine : {d d' : ℕ} {e e' : Declaration} {ks r r' : List Terminal} → IsRoutine d e ks r → IsRoutine d' e' ks r' → (e ≡ e') × (r ≡ r')
   unique_routine (is_routine h ws b) (is_routine {d = y} {ws = w1} {b = b1} {q = q1} {n = n1} {r = z} h' ws' b') =
       let u = unique_heading h h' in
       let v = unique_directives ws (subst (λ x. AreDirectives w1 x n1) (sym u.1) ws') (body_no_directive b) (body_no_directive b') in
       let w = unique_routine_body b (subst (λ x. IsBody y b1 x (kind.Semicolon at q1 ∷ z)) (sym v.1) b') in
-      (same3 routine u.0 v.0 w.0, w.1)
+      (ap₃ routine u.0 v.0 w.0, w.1)
 
   unique_routine_body : {d d' : ℕ} {b b' : Body} {p p' : Position} {ks r r' : List Terminal} → IsBody d b ks (kind.Semicolon at p ∷ r) → IsBody d' b' ks (kind.Semicolon at p' ∷ r') → (b ≡ b') × (r ≡ r')
   unique_routine_body {p' = q} {r' = z} (is_body es ss) (is_body {d = y} {ss = s1} es' ss') =
       let u = unique_declarations es es' (block_no_declaration ss) (block_no_declaration ss') in
       let v = unique_block ss (subst (λ x. IsBlock y s1 x (kind.Semicolon at q ∷ z)) (sym u.1) ss') in
-      (same2 body u.0 v.0, ap behind v.1)
+      (ap₂ body u.0 v.0, ap behind v.1)
   unique_routine_body (is_body es ss) (is_forward e) = true_false (declarations_no_identifier es (block_no_identifier ss))
   unique_routine_body (is_forward e) (is_body es ss) = true_false (declarations_no_identifier es (block_no_identifier ss))
   unique_routine_body (is_forward e) (is_forward e') = (refl, refl)

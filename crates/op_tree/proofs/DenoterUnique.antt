@@ -1,8 +1,9 @@
 -- At most one type, and at most one first value, stands at the front of a list of tokens before what may follow it.
-use Rattle.std.proofs.Common.{◌≡◌, ℕ, suc, Bool, true, false, List, [], ◌∷◌, refl, sym, ap, subst}
+use Rattle.std.proofs.Common.{◌≡◌, ℕ, suc, Bool, true, false, List, [], ◌∷◌, refl, sym, ap, subst, ap₂}
+use Rattle.op_base.proofs.Tests.{ap₃}
 use Rattle.op_scan.specs.declared.token.TokenKind.{TokenKind}
 use Rattle.op_scan.specs.declared.token.TokenKind.TheVariants as kind
-use Rattle.op_tree.proofs.ExpressionUnique.{true_false, false_true, Begins, chain_begins, ends_operand, is_comma, is_colon, behind, same2, same3, unique_chain, unique_expr}
+use Rattle.op_tree.proofs.ExpressionUnique.{true_false, false_true, Begins, chain_begins, ends_operand, is_comma, is_colon, behind, unique_chain, unique_expr}
 use Rattle.op_tree.proofs.StatementUnique.{differ, is_semicolon, is_end, is_identifier, unique_name, is_dot, unique_qualified}
 use Rattle.op_tree.specs.Denoter.{Denoter, named, subrange, enumeration, set, array, record_, Denoters, no_denoters, denoters, FieldLists, no_fields, fields}
 use Rattle.op_tree.specs.DenoterGrammar.{IsDenoter, is_named, is_string, is_subrange, is_enumeration, is_set, is_unpacked, is_packed, IsStructure, is_dynamic_array, is_static_array, is_record, AreDenoters, are_one_denoter, are_denoters, AreFieldLists, are_no_fields, are_last_fields, are_fields, IsNoExpression, IsInitial, is_value, is_list, is_record_value, AreInitials, are_one_initial, are_initials, AreFieldInitials, are_one_field_initial, are_field_initials}
@@ -29,7 +30,7 @@ unique_names (are_names a b) (are_one_name a') h h' = true_false (subst (IsNot i
 unique_names (are_names a b) (are_names {ns = n1} {r = z} a' b') h h' =
     let u = unique_name a a' in
     let v = unique_names b (subst (λ x. AreNames n1 x z) (sym (ap behind u.1)) b') h h' in
-    (same2 (λ x y. x ∷ y) u.0 v.0, v.1)
+    (ap₂ (λ x y. x ∷ y) u.0 v.0, v.1)
 
 pub names_begin : {ns : List Name} {ks r : List Terminal} → AreNames ns ks r → Begins is_identifier ks
 names_begin (are_one_name is_name) = refl
@@ -171,7 +172,7 @@ mutual
   unique_denoter (is_subrange {first = e} {last = g} a b) (is_subrange {d = y} {first = e'} {last = g'} {r = z} a' b') h h' =
       let u = unique_chain a a' (refl, ends_operand e _ refl) (refl, ends_operand e' _ refl) in
       let v = unique_chain b (subst (λ x. IsChain Additive y g' x z) (sym (ap behind u.1)) b') (stop_simple g _ h) (stop_simple g' _ h') in
-      (same2 subrange u.0 v.0, v.1)
+      (ap₂ subrange u.0 v.0, v.1)
   unique_denoter (is_subrange a b) (is_unpacked {k = k} s) h h' = no_structure k (chain_begins a) (structure_begins s)
   unique_denoter (is_unpacked {k = k} s) (is_subrange a b) h h' = no_structure k (chain_begins a) (structure_begins s)
   unique_denoter (is_subrange a b) f' h h' = false_true (chain_begins a)
@@ -193,7 +194,7 @@ mutual
   unique_structure {p = p} {b = b} (is_static_array ts t) (is_static_array {d = y} {t = t1} {r = z} ts' t') h h' =
       let u = unique_denoters ts ts' (record { operator = refl; selector = refl; range = refl }) (record { operator = refl; selector = refl; range = refl }) refl refl in
       let v = unique_denoter t (subst (λ x. IsDenoter (suc y) t1 x z) (sym (ap behind (ap behind u.1))) t') h h' in
-      (same2 (array p b) u.0 v.0, v.1)
+      (ap₂ (array p b) u.0 v.0, v.1)
   unique_structure {p = p} {b = b} (is_record fs) (is_record fs') h h' =
       let u = unique_field_lists fs fs' refl refl in
       (ap (record_ p b) u.0, ap behind u.1)
@@ -211,7 +212,7 @@ mutual
   unique_denoters (are_denoters t ts) (are_denoters {d = y} {ts = t1} {r = z} t' ts') h h' c c' =
       let u = unique_denoter t t' (record { operator = refl; selector = refl; range = refl }) (record { operator = refl; selector = refl; range = refl }) in
       let v = unique_denoters ts (subst (λ x. AreDenoters y t1 x z) (sym (ap behind u.1)) ts') h h' c c' in
-      (same2 denoters u.0 v.0, v.1)
+      (ap₂ denoters u.0 v.0, v.1)
 
   pub unique_field_lists : {d d' : ℕ} {fs fs' : FieldLists} {ks r r' : List Terminal} → AreFieldLists d fs ks r → AreFieldLists d' fs' ks r' → Begins is_end r → Begins is_end r' → (fs ≡ fs') × (r ≡ r')
   unique_field_lists are_no_fields are_no_fields h h' = (refl, refl)
@@ -222,7 +223,7 @@ mutual
   unique_field_lists (are_last_fields {r = w} ns t) (are_last_fields {d = y} {t = t1} {r = z} ns' t') h h' =
       let u = unique_names ns ns' refl refl in
       let v = unique_denoter t (subst (λ x. IsDenoter y t1 x z) (sym (ap behind u.1)) t') (end_stops w h) (end_stops z h') in
-      (same2 (λ x y. fields x y no_fields) u.0 v.0, v.1)
+      (ap₂ (λ x y. fields x y no_fields) u.0 v.0, v.1)
   unique_field_lists (are_last_fields {r = w} ns t) (are_fields {d = y} {t = t1} {q = q} {n = z} ns' t' fs') h h' =
       let u = unique_names ns ns' refl refl in
       let v = unique_denoter t (subst (λ x. IsDenoter y t1 x (kind.Semicolon at q ∷ z)) (sym (ap behind u.1)) t') (end_stops w h) (record { operator = refl; selector = refl; range = refl }) in
@@ -235,7 +236,7 @@ mutual
       let u = unique_names ns ns' refl refl in
       let v = unique_denoter t (subst (λ x. IsDenoter y t1 x (kind.Semicolon at q ∷ z)) (sym (ap behind u.1)) t') (record { operator = refl; selector = refl; range = refl }) (record { operator = refl; selector = refl; range = refl }) in
       let b = unique_field_lists fs (subst (λ x. AreFieldLists y f1 x w) (sym (ap behind v.1)) fs') h h' in
-      (same3 fields u.0 v.0 b.0, b.1)
+      (ap₃ fields u.0 v.0 b.0, b.1)
 
 -- ---- first values
 
@@ -299,13 +300,13 @@ mutual
   unique_initials (are_initials i is) (are_initials {d = y} {is = i1} {r = z} i' is') h h' c c' =
       let u = unique_initial i i' (refl, refl) (refl, refl) in
       let v = unique_initials is (subst (λ x. AreInitials y i1 x z) (sym (ap behind u.1)) is') h h' c c' in
-      (same2 initials u.0 v.0, v.1)
+      (ap₂ initials u.0 v.0, v.1)
 
   pub unique_field_initials : {d d' : ℕ} {fs fs' : FieldInitials} {ks r r' : List Terminal} → AreFieldInitials d fs ks r → AreFieldInitials d' fs' ks r' → Stops r → Stops r' → IsNot is_semicolon r → IsNot is_semicolon r' → (fs ≡ fs') × (r ≡ r')
   unique_field_initials (are_one_field_initial n i) (are_one_field_initial {d = y} {i = i1} {r = z} n' i') h h' c c' =
       let u = unique_name n n' in
       let v = unique_initial i (subst (λ x. IsInitial y i1 x z) (sym (ap behind u.1)) i') h h' in
-      (same2 (λ x y. field_initials x y no_field_initials) u.0 v.0, v.1)
+      (ap₂ (λ x y. field_initials x y no_field_initials) u.0 v.0, v.1)
   unique_field_initials (are_one_field_initial n i) (are_field_initials {d = y} {i = i1} {q = q} {l = z} n' i' fs') h h' c c' =
       let u = unique_name n n' in
       let v = unique_initial i (subst (λ x. IsInitial y i1 x (kind.Semicolon at q ∷ z)) (sym (ap behind u.1)) i') h (refl, refl) in
@@ -318,4 +319,4 @@ mutual
       let u = unique_name n n' in
       let v = unique_initial i (subst (λ x. IsInitial y i1 x (kind.Semicolon at q ∷ l)) (sym (ap behind u.1)) i') (refl, refl) (refl, refl) in
       let w = unique_field_initials fs (subst (λ x. AreFieldInitials y f1 x z) (sym (ap behind v.1)) fs') h h' c c' in
-      (same3 field_initials u.0 v.0 w.0, w.1)
+      (ap₃ field_initials u.0 v.0 w.0, w.1)

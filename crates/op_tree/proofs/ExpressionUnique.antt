@@ -1,5 +1,7 @@
 -- At most one expression stands at the front of a list of tokens and is whole.
-use Rattle.std.proofs.Common.{◌≡◌, ℕ, Bool, true, false, List, [], ◌∷◌, Option, Some, None, refl, sym, ap, ◌∙◌, subst}
+use Rattle.std.proofs.Common.{◌≡◌, ℕ, Bool, true, false, List, [], ◌∷◌, Option, Some, None, refl, sym, ap, ◌∙◌, subst, ap₂}
+use Rattle.std.proofs.lemmas.Option.{same_Some}
+use Rattle.op_base.proofs.Tests.{ap₃}
 use Rattle.op_scan.specs.declared.token.TokenKind.{TokenKind}
 use Rattle.op_scan.specs.declared.token.TokenKind.TheVariants as kind
 use Rattle.op_tree.specs.Ends.{IsNot, at_least, operator_at_least, binds, begins_selector, begins_designator, begins_expression, Stops, is_dot_dot, EndsOperand, EndOperations, EndsChain}
@@ -188,15 +190,6 @@ abbrev pub behind : List Terminal → List Terminal
 behind [] = []
 behind (t ∷ ts) = ts
 
-pub some_same : {A : Type 0} {x y : A} → Some x ≡ Some y → x ≡ y
-some_same {x} {y} e = cc
-
-pub same2 : {A B C : Type 0} (f : A → B → C) {a a' : A} {b b' : B} → a ≡ a' → b ≡ b' → f a b ≡ f a' b'
-same2 f {a} {a'} {b} {b'} p q = ap (λ x. f x b) p ∙ ap (f a') q
-
-pub same3 : {A B C D : Type 0} (f : A → B → C → D) {a a' : A} {b b' : B} {c c' : C} → a ≡ a' → b ≡ b' → c ≡ c' → f a b c ≡ f a' b' c'
-same3 f {a} {a'} {b} {b'} {c} {c'} p q u = ap (λ x. f x b c) p ∙ same2 (f a') q u
-
 mutual
   pub unique_chain : {l : Level} {d d' : ℕ} {e e' : Expression} {ks r r' : List Terminal} → IsChain l d e ks r → IsChain l d' e' ks r' → EndsChain l e r → EndsChain l e' r' → (e ≡ e') × (r ≡ r')
   unique_chain {l} {d'} {r} {r'} (is_chain {first = first} {rest = rest} a os q) (is_chain {first = first'} {rest = rest'} a' os' q') h h' =
@@ -204,7 +197,7 @@ mutual
       let t' = subst (λ x. EndsOperand x r') q' h'.1 in
       let s = unique_operand a a' (operand_ends first os h.0 t) (operand_ends first' os' h'.0 t') in
       let u = unique_operations os (subst (λ x. AreOperations l d' rest' x r') (sym s.1) os') h.0 h'.0 (last_operation first rest r t) (last_operation first' rest' r' t') in
-      (q ∙ same2 chain_of s.0 u.0 ∙ sym q', u.1)
+      (q ∙ ap₂ chain_of s.0 u.0 ∙ sym q', u.1)
 
   pub unique_operand : {l : Level} {d d' : ℕ} {e e' : Expression} {ks r r' : List Terminal} → IsOperand l d e ks r → IsOperand l d' e' ks r' → EndsOperandAt l e r → EndsOperandAt l e' r' → (e ≡ e') × (r ≡ r')
   unique_operand (is_simple f) (is_simple f') h h' = unique_chain f f' h h'
@@ -220,12 +213,12 @@ mutual
       let z' = last_operand e' rest' o' p r' t' in
       let s = unique_operand a a' (operand_ends e os n z) (operand_ends e' os' n' z') in
       let u = unique_operations os (subst (λ x. AreOperations l d' rest' x r') (sym s.1) os') n n' (last_operation e rest r z) (last_operation e' rest' r' z') in
-      (same3 (λ x y w. operation x p y w) (some_same (sym h ∙ h')) s.0 u.0, u.1)
+      (ap₃ (λ x y w. operation x p y w) (same_Some _ _ (sym h ∙ h')) s.0 u.0, u.1)
 
   pub unique_factor : {d d' : ℕ} {e e' : Expression} {ks r r' : List Terminal} → IsFactor d e ks r → IsFactor d' e' ks r' → EndsOperand e r → EndsOperand e' r' → (e ≡ e') × (r ≡ r')
   unique_factor (is_prefixed {p = p} h f) (is_prefixed h' f') t t' =
       let s = unique_factor f f' t t' in
-      (same2 (λ x y. prefixed x p y) (some_same (sym h ∙ h')) s.0, s.1)
+      (ap₂ (λ x y. prefixed x p y) (same_Some _ _ (sym h ∙ h')) s.0, s.1)
   unique_factor (is_prefixed h f) is_number t t' = absurd cc
   unique_factor (is_prefixed h f) is_nil t t' = absurd cc
   unique_factor (is_prefixed h f) is_empty_set t t' = absurd cc
@@ -274,7 +267,7 @@ mutual
   unique_designator {d'} {r} {r'} (is_designator root ss) (is_designator {ss = ss1} root' ss') t t' =
       let s = unique_root root root' in
       let u = unique_selectors ss (subst (λ x. AreSelectors d' ss1 x r') (sym s.1) ss') t t' in
-      (same2 designator s.0 u.0, u.1)
+      (ap₂ designator s.0 u.0, u.1)
 
   pub unique_root : {d d' : ℕ} {g g' : Root} {ks r r' : List Terminal} → IsRoot d g ks r → IsRoot d' g' ks r' → (g ≡ g') × (r ≡ r')
   unique_root is_named is_named = (refl, refl)
@@ -290,7 +283,7 @@ mutual
   unique_selectors {d'} {r} {r'} (are_selectors s ss) (are_selectors {ss = ss1} s' ss') t t' =
       let a = unique_selector s s' in
       let u = unique_selectors ss (subst (λ x. AreSelectors d' ss1 x r') (sym a.1) ss') t t' in
-      (same2 selectors a.0 u.0, u.1)
+      (ap₂ selectors a.0 u.0, u.1)
 
   pub unique_selector : {d d' : ℕ} {s s' : Selector} {ks r r' : List Terminal} → IsSelector d s ks r → IsSelector d' s' ks r' → (s ≡ s') × (r ≡ r')
   unique_selector is_member is_member = (refl, refl)
@@ -317,7 +310,7 @@ mutual
   unique_expressions {d'} {r} {r'} (are_expressions {e = e} f es) (are_expressions {e = e'} {es = es1} f' es') h h' c c' =
       let s = unique_chain f f' (stop e _ (refl, refl)) (stop e' _ (refl, refl)) in
       let u = unique_expressions es (subst (λ x. AreExpressions d' es1 x r') (sym (ap behind s.1)) es') h h' c c' in
-      (same2 expressions s.0 u.0, u.1)
+      (ap₂ expressions s.0 u.0, u.1)
 
   pub unique_elements : {d d' : ℕ} {es es' : Elements} {ks r r' : List Terminal} → AreElements d es ks r → AreElements d' es' ks r' → Stops r → Stops r' → IsNot is_comma r → IsNot is_comma r' → IsNot is_dot_dot r → IsNot is_dot_dot r' → (es ≡ es') × (r ≡ r')
   unique_elements (are_one_element f) (are_one_element f') h h' c c' b b' =
@@ -332,7 +325,7 @@ mutual
   unique_elements {d'} {r} {r'} (are_elements f es) (are_elements {es = es1} f' es') h h' c c' b b' =
       let s = unique_element f f' (refl, refl) (refl, refl) refl refl in
       let u = unique_elements es (subst (λ x. AreElements d' es1 x r') (sym (ap behind s.1)) es') h h' c c' b b' in
-      (same2 elements s.0 u.0, u.1)
+      (ap₂ elements s.0 u.0, u.1)
 
   unique_element : {d d' : ℕ} {e e' : Element} {ks r r' : List Terminal} → IsElement d e ks r → IsElement d' e' ks r' → Stops r → Stops r' → IsNot is_dot_dot r → IsNot is_dot_dot r' → (e ≡ e') × (r ≡ r')
   unique_element (is_one {e = e} f) (is_one {e = e'} f') h h' b b' =
@@ -347,7 +340,7 @@ mutual
   unique_element {d'} {r} {r'} (is_range {first = e} {last = last} f g) (is_range {first = e'} {last = last'} f' g') h h' b b' =
       let s = unique_chain f f' (stop e _ (refl, refl)) (stop e' _ (refl, refl)) in
       let u = unique_chain g (subst (λ x. IsChain Relational d' last' x r') (sym (ap behind s.1)) g') (stop last _ h) (stop last' _ h') in
-      (same2 range s.0 u.0, u.1)
+      (ap₂ range s.0 u.0, u.1)
 
   unique_arguments : {d d' : ℕ} {es es' : Arguments} {ks r r' : List Terminal} → AreArguments d es ks r → AreArguments d' es' ks r' → Stops r → Stops r' → IsNot is_comma r → IsNot is_comma r' → IsNot is_colon r → IsNot is_colon r' → (es ≡ es') × (r ≡ r')
   unique_arguments (are_one_argument f) (are_one_argument f') h h' c c' b b' =
@@ -362,7 +355,7 @@ mutual
   unique_arguments {d'} {r} {r'} (are_arguments f es) (are_arguments {args = es1} f' es') h h' c c' b b' =
       let s = unique_argument f f' (refl, refl) (refl, refl) refl refl in
       let u = unique_arguments es (subst (λ x. AreArguments d' es1 x r') (sym (ap behind s.1)) es') h h' c c' b b' in
-      (same2 arguments s.0 u.0, u.1)
+      (ap₂ arguments s.0 u.0, u.1)
 
   unique_argument : {d d' : ℕ} {e e' : Argument} {ks r r' : List Terminal} → IsArgument d e ks r → IsArgument d' e' ks r' → Stops r → Stops r' → IsNot is_colon r → IsNot is_colon r' → (e ≡ e') × (r ≡ r')
   unique_argument (is_value {e = e} f) (is_value {e = e'} f') h h' b b' =
@@ -383,7 +376,7 @@ mutual
   unique_argument {d'} {r} {r'} (is_padded {e = e} {width = w} f g) (is_padded {e = e'} {width = w'} f' g') h h' b b' =
       let s = unique_chain f f' (stop e _ (refl, refl)) (stop e' _ (refl, refl)) in
       let u = unique_chain g (subst (λ x. IsChain Relational d' w' x r') (sym (ap behind s.1)) g') (stop w _ h) (stop w' _ h') in
-      (same2 padded s.0 u.0, u.1)
+      (ap₂ padded s.0 u.0, u.1)
   unique_argument {d'} {r} {r'} (is_padded {e = e} {width = w} f g) (is_rounded {e = e'} {width = w'} {q = q'} {n = n'} f' g' i') h h' b b' =
       let s = unique_chain f f' (stop e _ (refl, refl)) (stop e' _ (refl, refl)) in
       let u = unique_chain g (subst (λ x. IsChain Relational d' w' x (kind.Colon at q' ∷ n')) (sym (ap behind s.1)) g') (stop w _ h) (stop w' _ (refl, refl)) in
@@ -396,7 +389,7 @@ mutual
       let s = unique_chain f f' (stop e _ (refl, refl)) (stop e' _ (refl, refl)) in
       let u = unique_chain g (subst (λ x. IsChain Relational d' w' x (kind.Colon at q' ∷ n')) (sym (ap behind s.1)) g') (stop w _ (refl, refl)) (stop w' _ (refl, refl)) in
       let z = unique_chain i (subst (λ x. IsChain Relational d' v' x r') (sym (ap behind u.1)) i') (stop v _ h) (stop v' _ h') in
-      (same3 rounded s.0 u.0 z.0, z.1)
+      (ap₃ rounded s.0 u.0 z.0, z.1)
 
 pub unique_expr : {d d' : ℕ} {e e' : Expression} {ks r r' : List Terminal} → IsChain Relational d e ks r → IsChain Relational d' e' ks r' → Stops r → Stops r' → (e ≡ e') × (r ≡ r')
 unique_expr {e = e} {e' = e'} {r = r} {r' = r'} f f' h h' = unique_chain f f' (stop e r h) (stop e' r' h')

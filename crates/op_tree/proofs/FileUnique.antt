@@ -1,10 +1,10 @@
 -- At most one file spells a list of tokens.
-use Rattle.std.proofs.Common.{◌≡◌, ℕ, Bool, true, false, List, [], ◌∷◌, Option, Some, None, refl, sym, ap, ◌∙◌, subst}
+use Rattle.std.proofs.Common.{◌≡◌, ℕ, Bool, true, false, List, [], ◌∷◌, Option, Some, None, refl, sym, ap, ◌∙◌, subst, ap₂}
 use Rattle.op_scan.specs.declared.token.TokenKind.{TokenKind}
 use Rattle.op_scan.specs.declared.token.TokenKind.TheVariants as kind
 use Rattle.op_tree.proofs.DeclarationUnique.{begins_data, block_no_declaration, data_begins, routine_begins, unique_declarations, unique_interface_part}
 use Rattle.op_tree.proofs.DenoterUnique.{unique_bracketed_names, unique_names}
-use Rattle.op_tree.proofs.ExpressionUnique.{true_false, false_true, Begins, behind, same2}
+use Rattle.op_tree.proofs.ExpressionUnique.{true_false, false_true, Begins, behind}
 use Rattle.op_tree.proofs.MethodUnique.{also, apart, begins_heading, method_begins}
 use Rattle.op_tree.proofs.StatementUnique.{differ, is_end, same4, same5, unique_block, unique_name, unique_statements}
 use Rattle.op_tree.specs.Declaration.{Declarations}
@@ -30,7 +30,7 @@ abbrev is_parenthesis : TokenKind → Bool
 is_parenthesis kind.OpenParenthesis = true
 is_parenthesis other = false
 
-abbrev heading_with : Name → List Name → ProgramHeading
+abbrev pub heading_with : Name → List Name → ProgramHeading
 heading_with n ns = record { name = n; parameters = ns }
 
 unique_program_heading : {d d' : ℕ} {h h' : Option ProgramHeading} {ks r r' : List Terminal} → IsProgramHeading d h ks r → IsProgramHeading d' h' ks r' → IsNot is_program_word r → IsNot is_program_word r' → (h ≡ h') × (r ≡ r')
@@ -47,7 +47,7 @@ unique_program_heading (has_name_and_list n (are_bracketed_names ns)) (has_name 
 unique_program_heading (has_name_and_list n ns) (has_name_and_list {d = y} {ns = n1} {q = q1} {r = z} n' ns') c c' =
     let u = unique_name n n' in
     let v = unique_bracketed_names ns (subst (λ x. AreBracketedNames y n1 x (kind.Semicolon at q1 ∷ z)) (sym u.1) ns') in
-    (same2 (λ x y. Some (heading_with x y)) u.0 v.0, ap behind v.1)
+    (ap₂ (λ x y. Some (heading_with x y)) u.0 v.0, ap behind v.1)
 
 -- ---- uses
 
@@ -143,7 +143,7 @@ tail_no_declaration (has_finalization ss) = refl
 tail_no_declaration (has_initialization ss) = refl
 tail_no_declaration (has_both ss ts) = refl
 
-abbrev tail_with : Option Statements → Option Statements → Tail
+abbrev pub tail_with : Option Statements → Option Statements → Tail
 tail_with i f = record { initialization = i; finalization = f }
 
 unique_tail : {d d' : ℕ} {t t' : Tail} {ks r r' : List Terminal} → IsTail d t ks r → IsTail d' t' ks r' → (t ≡ t') × (r ≡ r')
@@ -170,7 +170,7 @@ unique_tail (has_both ss ts) (has_initialization ss') = differ is_end (sym (uniq
 unique_tail (has_both ss ts) (has_both {d = y} {ts = t1} {u = q} {r = z} ss' ts') =
     let u = unique_statements ss ss' (refl, refl, refl) (refl, refl, refl) in
     let v = unique_statements ts (subst (λ x. AreStatements y t1 x (kind.End at q ∷ z)) (sym (ap behind u.1)) ts') (refl, refl, refl) (refl, refl, refl) in
-    (same2 (λ x y. tail_with (Some x) (Some y)) u.0 v.0, ap behind v.1)
+    (ap₂ (λ x y. tail_with (Some x) (Some y)) u.0 v.0, ap behind v.1)
 
 -- ---- files
 
@@ -178,13 +178,13 @@ begin_same : {p p' : Position} (ks : List Terminal) → BeginAt p ks → BeginAt
 begin_same [] h h' = absurd h
 begin_same (t ∷ ks) h h' = sym h ∙ h'
 
-abbrev program_with : Position → Option ProgramHeading → List Name → Declarations → Statements → File
+abbrev pub program_with : Position → Option ProgramHeading → List Name → Declarations → Statements → File
 program_with p h ns es ss = program (record { position = p; heading = h; uses = ns; declarations = es; statements = ss })
 
-abbrev part_with : List Name → Declarations → UnitPart
+abbrev pub part_with : List Name → Declarations → UnitPart
 part_with ns es = record { uses = ns; declarations = es }
 
-abbrev unit_with : Position → Name → UnitPart → UnitPart → Tail → File
+abbrev pub unit_with : Position → Name → UnitPart → UnitPart → Tail → File
 unit_with p n i m t = unit (record { position = p; name = n; interface = i; implementation = m; tail = t })
 
 heading_no_unit : {d : ℕ} {h : Option ProgramHeading} {ks r : List Terminal} → IsProgramHeading d h ks r → IsNot is_unit_word r → IsNot is_unit_word ks
@@ -222,4 +222,4 @@ unique_file (is_unit {p = p} {m1 = m1} {m3 = m3} n us is ls ds t) (is_unit {d = 
     let f = unique_uses ls (subst (λ x. IsUses l1 x z3) (sym (ap behind e.1)) ls') (apart part_no_uses m3 k) (apart part_no_uses z3 k') in
     let g = unique_declarations ds (subst (λ x. AreDeclarations y d1 x z4) (sym f.1) ds') (tail_no_declaration t) (tail_no_declaration t') in
     let h = unique_tail t (subst (λ x. IsTail y t1 x (kind.Dot at w1 ∷ z)) (sym g.1) t') in
-    (same4 (unit_with p) a.0 (same2 part_with b.0 e.0) (same2 part_with f.0 g.0) h.0, ap behind h.1)
+    (same4 (unit_with p) a.0 (ap₂ part_with b.0 e.0) (ap₂ part_with f.0 g.0) h.0, ap behind h.1)

@@ -1,8 +1,9 @@
 -- At most one heading stands at the front of a list of tokens before a semicolon.
-use Rattle.std.proofs.Common.{◌≡◌, ℕ, Bool, List, [], ◌∷◌, Option, Some, refl, sym, ap, ◌∙◌, subst}
+use Rattle.std.proofs.Common.{◌≡◌, ℕ, Bool, List, [], ◌∷◌, Option, Some, refl, sym, ap, ◌∙◌, subst, ap₂}
+use Rattle.std.proofs.lemmas.Option.{same_Some}
 use Rattle.op_scan.specs.declared.token.TokenKind.TheVariants as kind
 use Rattle.op_tree.proofs.DenoterUnique.{names_begin, no_dot, qualified_begins, unique_denoter, unique_names}
-use Rattle.op_tree.proofs.ExpressionUnique.{true_false, false_true, is_colon, behind, some_same, same2}
+use Rattle.op_tree.proofs.ExpressionUnique.{true_false, false_true, is_colon, behind}
 use Rattle.op_tree.proofs.StatementUnique.{is_semicolon, is_dot, unique_name, unique_qualified, same4, same5}
 use Rattle.op_tree.specs.Declaration.{Heading}
 use Rattle.op_tree.specs.Denoter.{Denoter}
@@ -20,8 +21,8 @@ use Rattle.op_tree.specs.declared.position.Position.{Position}
 
 -- ---- parameters
 
-abbrev parameter : ParameterMode → List Name → Bool → ParameterType → Parameter
-parameter m ns b t = record { mode = m; names = ns; open_array = b; of = t }
+abbrev pub parameter_with : ParameterMode → List Name → Bool → ParameterType → Parameter
+parameter_with m ns b t = record { mode = m; names = ns; open_array = b; of = t }
 
 -- a word that names follow is no name
 out_is_no_name : {A : Type 0} {ns ns' : List Name} {text : List ℕ} {p q : Position} {ks r z : List Terminal} → AreNames ns (kind.Identifier text at p ∷ ks) (kind.Colon at q ∷ r) → AreNames ns' ks z → A
@@ -70,7 +71,7 @@ pub unique_parameter : {a a' : Parameter} {ks r r' : List Terminal} → IsParame
 unique_parameter (is_parameter m n b t) (is_parameter {b = b1} {m2 = z} m' n' b' t') h h' =
     let u = unique_moded m n m' n' in
     let v = unique_open b t (subst (λ x. IsOpenArray b1 x z) (sym u.2) b') t' h h' in
-    (same4 parameter u.0 u.1 v.0 v.1, v.2)
+    (same4 parameter_with u.0 u.1 v.0 v.1, v.2)
 
 pub unique_parameters : {as_ as' : List Parameter} {ks r r' : List Terminal} → AreParameters as_ ks r → AreParameters as' ks r' → IsNot is_dot r → IsNot is_dot r' → IsNot is_semicolon r → IsNot is_semicolon r' → (as_ ≡ as') × (r ≡ r')
 unique_parameters (is_one_parameter a) (is_one_parameter a') h h' c c' =
@@ -81,7 +82,7 @@ unique_parameters (are_parameters a b) (is_one_parameter a') h h' c c' = true_fa
 unique_parameters (are_parameters a b) (are_parameters {as_ = as1} {r = z} a' b') h h' c c' =
     let u = unique_parameter a a' refl refl in
     let v = unique_parameters b (subst (λ x. AreParameters as1 x z) (sym (ap behind u.1)) b') h h' c c' in
-    (same2 (λ x y. x ∷ y) u.0 v.0, v.1)
+    (ap₂ (λ x y. x ∷ y) u.0 v.0, v.1)
 
 pub no_parameters : {A : Type 0} {as_ : List Parameter} {p : Position} {ks r : List Terminal} → AreParameters as_ (kind.CloseParenthesis at p ∷ ks) r → A
 no_parameters (is_one_parameter (is_parameter by_value n b t)) = false_true (names_begin n)
@@ -140,4 +141,4 @@ unique_heading {p' = p'} {r' = r'} (is_heading {m1 = m1} e n a t) (is_heading {d
     let u = unique_routine_name n n' (part_no_dot a (no_dot m1 s)) (part_no_dot a' (no_dot z s')) in
     let v = unique_parameter_part a (subst (λ x. IsParameterPart y a1 x z) (sym u.2) a') s s' in
     let w = unique_optional_type t (subst (λ x. IsOptionalType y t1 x (kind.Semicolon at p' ∷ r')) (sym v.1) t') (record { operator = refl; selector = refl; range = refl }) (record { operator = refl; selector = refl; range = refl }) refl refl in
-    (same5 heading_with (some_same (sym e ∙ e')) u.0 u.1 v.0 w.0, ap behind w.1)
+    (same5 heading_with (same_Some _ _ (sym e ∙ e')) u.0 u.1 v.0 w.0, ap behind w.1)

@@ -1,8 +1,9 @@
 -- At most one method, and at most one list of methods, stands at the front of a list of tokens.
-use Rattle.std.proofs.Common.{◌≡◌, ℕ, Bool, true, false, List, [], ◌∷◌, Some, refl, sym, ◌∙◌, subst}
+use Rattle.std.proofs.Common.{◌≡◌, ℕ, Bool, true, false, List, [], ◌∷◌, Some, refl, sym, ◌∙◌, subst, ap₂}
+use Rattle.std.proofs.lemmas.Option.{same_Some}
 use Rattle.op_scan.specs.declared.token.TokenKind.{TokenKind}
 use Rattle.op_scan.specs.declared.token.TokenKind.TheVariants as kind
-use Rattle.op_tree.proofs.ExpressionUnique.{true_false, false_true, Begins, some_same, same2}
+use Rattle.op_tree.proofs.ExpressionUnique.{true_false, false_true, Begins}
 use Rattle.op_tree.proofs.HeadingUnique.{unique_heading}
 use Rattle.op_tree.proofs.StatementUnique.{both, is_end, is_identifier}
 use Rattle.op_tree.specs.Declaration.{Heading, Method}
@@ -24,7 +25,7 @@ unique_directives are_no_directives (are_directives e f) h h' = absurd (h _ _ _ 
 unique_directives (are_directives e f) are_no_directives h h' = absurd (h' _ _ _ (are_directives e f))
 unique_directives (are_directives e f) (are_directives e' f') h h' =
     let u = unique_directives f f' h h' in
-    (same2 (λ x y. x ∷ y) (some_same (sym e ∙ e')) u.0, u.1)
+    (ap₂ (λ x y. x ∷ y) (same_Some _ _ (sym e ∙ e')) u.0, u.1)
 
 -- ---- methods
 
@@ -32,7 +33,7 @@ pub unique_method : {d d' : ℕ} {a a' : Method} {ks r r' : List Terminal} → I
 unique_method (is_method h ws) (is_method {ws = ws1} {r = z} h' ws') n n' =
     let u = unique_heading h h' in
     let v = unique_directives ws (subst (λ x. AreDirectives ws1 x z) (sym u.1) ws') n n' in
-    (same2 (λ x y. record { heading = x; directives = y }) u.0 v.0, v.1)
+    (ap₂ (λ x y. record { heading = x; directives = y }) u.0 v.0, v.1)
 
 -- the kind begins a heading
 abbrev pub begins_heading : TokenKind → Bool
@@ -105,4 +106,4 @@ unique_methods (are_methods {m = m} a more) (are_methods {d = y} {as_ = as1} {m 
     let h' = apart methods_no_identifier m1 (methods_begin more' e') in
     let u = unique_method a a' (no_directive m h) (no_directive m1 h') in
     let v = unique_methods more (subst (λ x. AreMethods y as1 x z) (sym u.1) more') e e' in
-    (same2 (λ x y. x ∷ y) u.0 v.0, v.1)
+    (ap₂ (λ x y. x ∷ y) u.0 v.0, v.1)

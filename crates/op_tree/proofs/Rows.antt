@@ -1,8 +1,9 @@
 -- What a row of a tree's parts says is what the parts of these parts says.
-use Rattle.std.proofs.Common.{◌≡◌, Bool, refl, ap, ◌∙◌}
+use Rattle.std.proofs.Common.{◌≡◌, Bool, refl, ap, ◌∙◌, ap₂}
 use Rattle.std.specs.Prelude.{Box, Vec}
 use mathlib.Core.Former.{Count}
 use Rattle.std.specs.declared.alloc.Global.{Global}
+use Rattle.op_base.proofs.Tests.{ap₃}
 use Rattle.op_tree.specs.Declaration.{body, body_of, declarations_of, declarations, declaration_of, declaration_row}
 use Rattle.op_tree.specs.Denoter.{array, record_, denoters, fields, denoter_of, denoter_row, field_row}
 use Rattle.op_tree.specs.Expression.{chain, set, literal, designated, inherited, operation, index, call, expressions, arguments, expr_of, element_of, root_of, selector_of, argument_of, operation_row, element_row, selector_row, expr_row, argument_row, elements, selectors, designator}
@@ -32,7 +33,6 @@ use Rattle.op_tree.specs.declared.declaration.Declaration.{Declaration}
 use Rattle.op_tree.specs.declared.position.Position.{Position}
 use Rattle.op_scan.specs.declared.compact_text.CompactText.{CompactText}
 use Rattle.op_tree.specs.Lists.{operations_of, expressions_of, arguments_of, denoters_of, field_lists_of, initials_of, field_initials_of, branches_of, handlers_of, ListNodes}
-use Rattle.op_tree.proofs.ExpressionUnique.{same2, same3}
 use Rattle.op_tree.specs.declared.expression.Expr.{Row_of-Operation, end_of-Operation, more_of-Operation, items-the_row-Operation, items_hidden-the_row-Operation-0, Row_of-Element, end_of-Element, more_of-Element, items-the_row-Element, items_hidden-the_row-Element-1, Row_of-Selector, end_of-Selector, more_of-Selector, items-the_row-Selector, items_hidden-the_row-Selector-2}
 use Rattle.op_tree.specs.declared.expression.Selector.{Row_of-Expr, end_of-Expr, more_of-Expr, items-the_row-Expr, items_hidden-the_row-Expr-3, Row_of-Argument, end_of-Argument, more_of-Argument, items-the_row-Argument, items_hidden-the_row-Argument-4}
 use Rattle.op_tree.specs.declared.denoter.TypeDenoter.{Row_of-TypeDenoter, end_of-TypeDenoter, more_of-TypeDenoter, items-the_row-TypeDenoter, items_hidden-the_row-TypeDenoter-0, Row_of-Fields, end_of-Fields, more_of-Fields, items-the_row-Fields, items_hidden-the_row-Fields-1}
@@ -206,22 +206,22 @@ pub case_of_says : (selector : Box Expr Global) (parts : Vec Branch Global) → 
 case_of_says selector parts = ap (case_of (expr_of selector.value)) (let row = branches_in (Case selector parts) in branch_row-list row.0 row.1 ∙ ap branches_of (items_hidden-the_row-Branch-1 parts))
 
 pub case_else_says : (selector : Box Expr Global) (parts : Vec Branch Global) (otherwise : Vec Stmt Global) → stmt_of (CaseElse selector parts otherwise) ≡ case_else (expr_of selector.value) (branches_of parts.items) (stmts_of otherwise.items)
-case_else_says selector parts otherwise = same2 (case_else (expr_of selector.value)) (let row = branches_in (CaseElse selector parts otherwise) in branch_row-list row.0 row.1 ∙ ap branches_of (items_hidden-the_row-Branch-1 parts)) (let row = first_row (CaseElse selector parts otherwise) in stmt_row-list row.0 row.1 ∙ ap stmts_of (items_hidden-the_row-Stmt-0 otherwise))
+case_else_says selector parts otherwise = ap₂ (case_else (expr_of selector.value)) (let row = branches_in (CaseElse selector parts otherwise) in branch_row-list row.0 row.1 ∙ ap branches_of (items_hidden-the_row-Branch-1 parts)) (let row = first_row (CaseElse selector parts otherwise) in stmt_row-list row.0 row.1 ∙ ap stmts_of (items_hidden-the_row-Stmt-0 otherwise))
 
 pub repeat_until_says : (parts : Vec Stmt Global) (condition : Box Expr Global) → stmt_of (Repeat parts condition) ≡ repeat_until (stmts_of parts.items) (expr_of condition.value)
 repeat_until_says parts condition = ap (λ x. repeat_until x (expr_of condition.value)) (let row = first_row (Repeat parts condition) in stmt_row-list row.0 row.1 ∙ ap stmts_of (items_hidden-the_row-Stmt-0 parts))
 
 pub try_finally_says : (parts others : Vec Stmt Global) → stmt_of (TryFinally parts others) ≡ try_finally (stmts_of parts.items) (stmts_of others.items)
-try_finally_says parts others = same2 try_finally (let row = first_row (TryFinally parts others) in stmt_row-list row.0 row.1 ∙ ap stmts_of (items_hidden-the_row-Stmt-0 parts)) (let row = second_row (TryFinally parts others) in stmt_row-list row.0 row.1 ∙ ap stmts_of (items_hidden-the_row-Stmt-0 others))
+try_finally_says parts others = ap₂ try_finally (let row = first_row (TryFinally parts others) in stmt_row-list row.0 row.1 ∙ ap stmts_of (items_hidden-the_row-Stmt-0 parts)) (let row = second_row (TryFinally parts others) in stmt_row-list row.0 row.1 ∙ ap stmts_of (items_hidden-the_row-Stmt-0 others))
 
 pub try_except_says : (parts others : Vec Stmt Global) → stmt_of (TryExcept parts others) ≡ try_except (stmts_of parts.items) (stmts_of others.items)
-try_except_says parts others = same2 try_except (let row = first_row (TryExcept parts others) in stmt_row-list row.0 row.1 ∙ ap stmts_of (items_hidden-the_row-Stmt-0 parts)) (let row = second_row (TryExcept parts others) in stmt_row-list row.0 row.1 ∙ ap stmts_of (items_hidden-the_row-Stmt-0 others))
+try_except_says parts others = ap₂ try_except (let row = first_row (TryExcept parts others) in stmt_row-list row.0 row.1 ∙ ap stmts_of (items_hidden-the_row-Stmt-0 parts)) (let row = second_row (TryExcept parts others) in stmt_row-list row.0 row.1 ∙ ap stmts_of (items_hidden-the_row-Stmt-0 others))
 
 pub try_on_says : (parts : Vec Stmt Global) (others : Vec Handler Global) → stmt_of (TryOn parts others) ≡ try_on (stmts_of parts.items) (handlers_of others.items)
-try_on_says parts others = same2 try_on (let row = first_row (TryOn parts others) in stmt_row-list row.0 row.1 ∙ ap stmts_of (items_hidden-the_row-Stmt-0 parts)) (let row = handlers_in (TryOn parts others) in handler_row-list row.0 row.1 ∙ ap handlers_of (items_hidden-the_row-Handler-2 others))
+try_on_says parts others = ap₂ try_on (let row = first_row (TryOn parts others) in stmt_row-list row.0 row.1 ∙ ap stmts_of (items_hidden-the_row-Stmt-0 parts)) (let row = handlers_in (TryOn parts others) in handler_row-list row.0 row.1 ∙ ap handlers_of (items_hidden-the_row-Handler-2 others))
 
 pub try_on_else_says : (parts : Vec Stmt Global) (others : Vec Handler Global) (otherwise : Vec Stmt Global) → stmt_of (TryOnElse parts others otherwise) ≡ try_on_else (stmts_of parts.items) (handlers_of others.items) (stmts_of otherwise.items)
-try_on_else_says parts others otherwise = same3 try_on_else (let row = first_row (TryOnElse parts others otherwise) in stmt_row-list row.0 row.1 ∙ ap stmts_of (items_hidden-the_row-Stmt-0 parts)) (let row = handlers_in (TryOnElse parts others otherwise) in handler_row-list row.0 row.1 ∙ ap handlers_of (items_hidden-the_row-Handler-2 others)) (let row = second_row (TryOnElse parts others otherwise) in stmt_row-list row.0 row.1 ∙ ap stmts_of (items_hidden-the_row-Stmt-0 otherwise))
+try_on_else_says parts others otherwise = ap₃ try_on_else (let row = first_row (TryOnElse parts others otherwise) in stmt_row-list row.0 row.1 ∙ ap stmts_of (items_hidden-the_row-Stmt-0 parts)) (let row = handlers_in (TryOnElse parts others otherwise) in handler_row-list row.0 row.1 ∙ ap handlers_of (items_hidden-the_row-Handler-2 others)) (let row = second_row (TryOnElse parts others otherwise) in stmt_row-list row.0 row.1 ∙ ap stmts_of (items_hidden-the_row-Stmt-0 otherwise))
 
 pub body_says : (parts : Vec Declaration Global) (body_statements : Vec Stmt Global) → body_of (BodyBlock parts body_statements) ≡ body (declarations_of parts.items) (stmts_of body_statements.items)
 body_says parts body_statements = ap (λ x. body x (stmts_of body_statements.items)) (let row = body_row (BodyBlock parts body_statements) in declaration_row-list row.0 row.1 ∙ ap declarations_of (items_hidden-the_row-Declaration-0 parts))

@@ -1,8 +1,10 @@
 -- At most one statement stands at the front of a list of tokens and is whole.
-use Rattle.std.proofs.Common.{◌≡◌, ℕ, Bool, true, false, ◌||◌, List, [], ◌∷◌, Option, Some, refl, sym, ap, ◌∙◌, subst}
+use Rattle.std.proofs.Common.{◌≡◌, ℕ, Bool, true, false, ◌||◌, List, [], ◌∷◌, Option, Some, refl, sym, ap, ◌∙◌, subst, ap₂}
+use Rattle.std.proofs.lemmas.Option.{same_Some}
+use Rattle.op_base.proofs.Tests.{ap₃}
 use Rattle.op_scan.specs.declared.token.TokenKind.{TokenKind}
 use Rattle.op_scan.specs.declared.token.TokenKind.TheVariants as kind
-use Rattle.op_tree.proofs.ExpressionUnique.{true_false, false_true, Begins, designator_begins, elements_begin, chain_begins, selector_begins, stop, is_colon, behind, some_same, same2, same3, unique_chain, unique_expr, unique_designator, unique_elements}
+use Rattle.op_tree.proofs.ExpressionUnique.{true_false, false_true, Begins, designator_begins, elements_begin, chain_begins, selector_begins, stop, is_colon, behind, unique_chain, unique_expr, unique_designator, unique_elements}
 use Rattle.op_tree.specs.Ends.{IsNot, binds, begins_selector, begins_designator, begins_expression, begins_statement, Stops, is_assign, is_else, EndsStatement}
 use Rattle.op_tree.specs.Expression.{Elements}
 use Rattle.op_tree.specs.ExpressionGrammar.{IsChain, is_designator, is_named, is_string, is_bracketed, AreSelectors, are_no_selectors, are_selectors, AreElements}
@@ -235,7 +237,7 @@ no_on_at {ks = ks} o h = at_front ks (on_begins o) h
     at_front (t ∷ ks) b e = true_false (sym e ∙ identifier_ends_no_list t.kind b)
 
 pub same4 : {A B C D E : Type 0} (f : A → B → C → D → E) {a a' : A} {b b' : B} {c c' : C} {d d' : D} → a ≡ a' → b ≡ b' → c ≡ c' → d ≡ d' → f a b c d ≡ f a' b' c' d'
-same4 f {a} {a'} {b} {b'} {c} {c'} {d} {d'} p q u v = ap (λ x. f x b c d) p ∙ same3 (f a') q u v
+same4 f {a} {a'} {b} {b'} {c} {c'} {d} {d'} p q u v = ap (λ x. f x b c d) p ∙ ap₃ (f a') q u v
 
 head_position_same : {k k' : TokenKind} {p p' : Position} {r r' : List Terminal} → k at p ∷ r ≡ k' at p' ∷ r' → p ≡ p'
 head_position_same {p = p} q = ap (position_or p) q
@@ -244,7 +246,7 @@ head_position_same {p = p} q = ap (position_or p) q
     position_or p [] = p
     position_or p (t ∷ ts) = t.position
 
-abbrev head_kind : List Terminal → TokenKind
+abbrev pub head_kind : List Terminal → TokenKind
 head_kind [] = kind.End
 head_kind (t ∷ ts) = t.kind
 
@@ -268,7 +270,7 @@ mutual
   unique_statement (is_if_then c s) (is_if_then {d = y} {s = s1} {r = z} c' s') h h' =
       let u = unique_expr c c' (refl, refl) (refl, refl) in
       let v = unique_statement s (subst (λ x. IsStatement y s1 x z) (sym (ap behind u.1)) s') h.0 h'.0 in
-      (same2 if_then u.0 v.0, v.1)
+      (ap₂ if_then u.0 v.0, v.1)
   unique_statement (is_if_then c s) (is_if_else {d = y} {s = s1} {u = q} {n = z} c' s' closed t') h h' =
       let u = unique_expr c c' (refl, refl) (refl, refl) in
       let v = unique_statement s (subst (λ x. IsStatement y s1 x (kind.Else_ at q ∷ z)) (sym (ap behind u.1)) s') h.0 (ends_closed s1 _ refl closed) in
@@ -281,11 +283,11 @@ mutual
       let u = unique_expr c c' (refl, refl) (refl, refl) in
       let v = unique_statement s (subst (λ x. IsStatement y s1 x (kind.Else_ at q ∷ z)) (sym (ap behind u.1)) s') (ends_closed s0 _ refl closed) (ends_closed s1 _ refl closed') in
       let b = unique_statement t (subst (λ x. IsStatement y t1 x w) (sym (ap behind v.1)) t') h h' in
-      (same3 if_else u.0 v.0 b.0, b.1)
+      (ap₃ if_else u.0 v.0 b.0, b.1)
   unique_statement (is_case c b) (is_case {d = y} {bs = b1} {u = q} {r = z} c' b') h h' =
       let u = unique_expr c c' (refl, refl) (refl, refl) in
       let v = unique_branches b (subst (λ x. AreBranches y b1 x (kind.End at q ∷ z)) (sym (ap behind u.1)) b') refl refl in
-      (same2 case_of u.0 v.0, ap behind v.1)
+      (ap₂ case_of u.0 v.0, ap behind v.1)
   unique_statement (is_case c b) (is_case_else {d = y} {bs = b1} {u = q} {n = z} c' b' e') h h' =
       let u = unique_expr c c' (refl, refl) (refl, refl) in
       let v = unique_branches b (subst (λ x. AreBranches y b1 x (kind.Else_ at q ∷ z)) (sym (ap behind u.1)) b') refl refl in
@@ -298,19 +300,19 @@ mutual
       let u = unique_expr c c' (refl, refl) (refl, refl) in
       let v = unique_branches b (subst (λ x. AreBranches y b1 x (kind.Else_ at q ∷ z)) (sym (ap behind u.1)) b') refl refl in
       let t = unique_statements e (subst (λ x. AreStatements y e1 x (kind.End at l ∷ w)) (sym (ap behind v.1)) e') (refl, refl, refl) (refl, refl, refl) in
-      (same3 case_else u.0 v.0 t.0, ap behind t.1)
+      (ap₃ case_else u.0 v.0 t.0, ap behind t.1)
   unique_statement (is_while c s) (is_while {d = y} {s = s1} {r = z} c' s') h h' =
       let u = unique_expr c c' (refl, refl) (refl, refl) in
       let v = unique_statement s (subst (λ x. IsStatement y s1 x z) (sym (ap behind u.1)) s') h h' in
-      (same2 while_do u.0 v.0, v.1)
+      (ap₂ while_do u.0 v.0, v.1)
   unique_statement (is_repeat b c) (is_repeat {d = y} {c = c1} {r = z} b' c') h h' =
       let u = unique_statements b b' (refl, refl, refl) (refl, refl, refl) in
       let v = unique_chain c (subst (λ x. IsChain Relational y c1 x z) (sym (ap behind u.1)) c') h h' in
-      (same2 repeat_until u.0 v.0, v.1)
+      (ap₂ repeat_until u.0 v.0, v.1)
   unique_statement (is_for_to {k = k} {way = way} {u = q} {m1 = m1} n a w b s) (is_for_to {d = y} {first = a1} {last = b1} {k = k1} {way = way1} {s = s1} {u = q1} {v = l1} {m1 = x1} {m2 = x2} {r = z} n' a' w' b' s') h h' =
       let g = unique_name n n' in
       let u = unique_expr a (subst (λ x. IsChain Relational y a1 x (k1 at q1 ∷ x1)) (sym (ap behind g.1)) a') (direction_stops k way q m1 w) (direction_stops k1 way1 q1 x1 w') in
-      let i = some_same (sym w ∙ ap (λ x. direction_of (head_kind x)) u.1 ∙ w') in
+      let i = same_Some _ _ (sym w ∙ ap (λ x. direction_of (head_kind x)) u.1 ∙ w') in
       let v = unique_expr b (subst (λ x. IsChain Relational y b1 x (kind.Do_ at l1 ∷ x2)) (sym (ap behind u.1)) b') (refl, refl) (refl, refl) in
       let t = unique_statement s (subst (λ x. IsStatement y s1 x z) (sym (ap behind v.1)) s') h h' in
       (same5 for_to g.0 u.0 i v.0 t.0, t.1)
@@ -320,11 +322,11 @@ mutual
       let g = unique_name n n' in
       let u = unique_expr e (subst (λ x. IsChain Relational y e1 x (kind.Do_ at q1 ∷ x1)) (sym (ap behind g.1)) e') (refl, refl) (refl, refl) in
       let t = unique_statement s (subst (λ x. IsStatement y s1 x z) (sym (ap behind u.1)) s') h h' in
-      (same3 for_in g.0 u.0 t.0, t.1)
+      (ap₃ for_in g.0 u.0 t.0, t.1)
   unique_statement (is_try_finally b c) (is_try_finally {d = y} {ts = c1} {u = q1} {r = z} b' c') h h' =
       let u = unique_statements b b' (refl, refl, refl) (refl, refl, refl) in
       let v = unique_statements c (subst (λ x. AreStatements y c1 x (kind.End at q1 ∷ z)) (sym (ap behind u.1)) c') (refl, refl, refl) (refl, refl, refl) in
-      (same2 try_finally u.0 v.0, ap behind v.1)
+      (ap₂ try_finally u.0 v.0, ap behind v.1)
   unique_statement (is_try_finally b c) (is_try_except b' c') h h' = differ is_finally (unique_statements b b' (refl, refl, refl) (refl, refl, refl)).1 refl refl
   unique_statement (is_try_finally b c) (is_try_on b' c') h h' = differ is_finally (unique_statements b b' (refl, refl, refl) (refl, refl, refl)).1 refl refl
   unique_statement (is_try_finally b c) (is_try_on_else b' c' e') h h' = differ is_finally (unique_statements b b' (refl, refl, refl) (refl, refl, refl)).1 refl refl
@@ -334,7 +336,7 @@ mutual
   unique_statement (is_try_except b c) (is_try_except {d = y} {ts = c1} {u = q1} {r = z} b' c') h h' =
       let u = unique_statements b b' (refl, refl, refl) (refl, refl, refl) in
       let v = unique_statements c (subst (λ x. AreStatements y c1 x (kind.End at q1 ∷ z)) (sym (ap behind u.1)) c') (refl, refl, refl) (refl, refl, refl) in
-      (same2 try_except u.0 v.0, ap behind v.1)
+      (ap₂ try_except u.0 v.0, ap behind v.1)
   unique_statement (is_try_except {d = y} {ts = c1} {u = q1} {r = z} b c) (is_try_on b' c') h h' =
       let u = unique_statements b b' (refl, refl, refl) (refl, refl, refl) in
       no_handlers_at (subst (λ x. AreStatements y c1 x (kind.End at q1 ∷ z)) (ap behind u.1) c) refl c'
@@ -350,7 +352,7 @@ mutual
   unique_statement (is_try_on b c) (is_try_on {d = y} {v = v1} {c = k1} {s = s1} {hs = c1} {u = q1} {r = z} b' c') h h' =
       let u = unique_statements b b' (refl, refl, refl) (refl, refl, refl) in
       let v = unique_handlers c (subst (λ x. AreHandlers y (handlers v1 k1 s1 c1) x (kind.End at q1 ∷ z)) (sym (ap behind u.1)) c') refl refl in
-      (same2 try_on u.0 v.0, ap behind v.1)
+      (ap₂ try_on u.0 v.0, ap behind v.1)
   unique_statement (is_try_on b c) (is_try_on_else {d = y} {v = v1} {c = k1} {s = s1} {hs = c1} {u = q1} {n = z} b' c' e') h h' =
       let u = unique_statements b b' (refl, refl, refl) (refl, refl, refl) in
       let v = unique_handlers c (subst (λ x. AreHandlers y (handlers v1 k1 s1 c1) x (kind.Else_ at q1 ∷ z)) (sym (ap behind u.1)) c') refl refl in
@@ -363,7 +365,7 @@ mutual
       let u = unique_statements b b' (refl, refl, refl) (refl, refl, refl) in
       let v = unique_handlers c (subst (λ x. AreHandlers y (handlers v1 k1 s1 c1) x (kind.Else_ at q1 ∷ l)) (sym (ap behind u.1)) c') refl refl in
       let t = unique_statements e (subst (λ x. AreStatements y e1 x (kind.End at q2 ∷ z)) (sym (ap behind v.1)) e') (refl, refl, refl) (refl, refl, refl) in
-      (same3 try_on_else u.0 v.0 t.0, ap behind t.1)
+      (ap₃ try_on_else u.0 v.0 t.0, ap behind t.1)
   unique_statement (is_raise {p = p} e) (is_raise e') h h' =
       let u = unique_chain e e' h h' in
       (ap (raise p) u.0, u.1)
@@ -388,7 +390,7 @@ mutual
   unique_statement (is_assignment {p = p} g e) (is_assignment {d = y} {e = e1} {r = z} g' e') h h' =
       let u = unique_designator g g' refl refl in
       let v = unique_chain e (subst (λ x. IsChain Relational y e1 x z) (sym (ap behind u.1)) e') h h' in
-      (same3 assign u.0 (head_position_same u.1) v.0, v.1)
+      (ap₃ assign u.0 (head_position_same u.1) v.0, v.1)
   unique_statement (is_call g) f' h h' = false_true (designator_begins g)
   unique_statement (is_assignment g e) f' h h' = false_true (designator_begins g)
   unique_statement f (is_call g) h h' = false_true (designator_begins g)
@@ -412,7 +414,7 @@ mutual
   unique_statements (are_statements {s = s} f ss) (are_statements {d = y} {s = s'} {ss = x1} {r = z} f' ss') h h' =
       let u = unique_statement f f' (ends s _ refl refl) (ends s' _ refl refl) in
       let v = unique_statements ss (subst (λ x. AreStatements y x1 x z) (sym (ap behind u.1)) ss') h h' in
-      (same2 statements u.0 v.0, v.1)
+      (ap₂ statements u.0 v.0, v.1)
 
   pub unique_branches : {d d' : ℕ} {bs bs' : Branches} {ks r r' : List Terminal} → AreBranches d bs ks r → AreBranches d' bs' ks r' → Begins ends_list r → Begins ends_list r' → (bs ≡ bs') × (r ≡ r')
   unique_branches are_no_branches are_no_branches h h' = (refl, refl)
@@ -426,7 +428,7 @@ mutual
       let u = unique_elements es es' (refl, refl) (refl, refl) refl refl refl refl in
       let v = unique_statement f (subst (λ x. IsStatement y s1 x (kind.Semicolon at q1 ∷ n1)) (sym (ap behind u.1)) f') (ends s0 _ refl refl) (ends s1 _ refl refl) in
       let w = unique_branches bs (subst (λ x. AreBranches y b1 x z) (sym (ap behind v.1)) bs') h h' in
-      (same3 branches u.0 v.0 w.0, w.1)
+      (ap₃ branches u.0 v.0 w.0, w.1)
   unique_branches (are_branches {s = s0} es f bs) (is_branch_before_end {d = y} {ls = l1} {s = s1} {p = p1} {q = q1} {m = m1} {r = z} es' f') h h' =
       let u = unique_elements es es' (refl, refl) (refl, refl) refl refl refl refl in
       let v = unique_statement f (subst (λ x. IsStatement y s1 x (kind.End at q1 ∷ z)) (sym (ap behind u.1)) f') (ends s0 _ refl refl) (ends s1 _ refl refl) in
@@ -442,7 +444,7 @@ mutual
   unique_branches (is_branch_before_end {s = s0} es f) (is_branch_before_end {d = y} {ls = l1} {s = s1} {p = p1} {q = q1} {m = m1} {r = z} es' f') h h' =
       let u = unique_elements es es' (refl, refl) (refl, refl) refl refl refl refl in
       let v = unique_statement f (subst (λ x. IsStatement y s1 x (kind.End at q1 ∷ z)) (sym (ap behind u.1)) f') (ends s0 _ refl refl) (ends s1 _ refl refl) in
-      (same2 (λ x y. branches x y no_branches) u.0 v.0, v.1)
+      (ap₂ (λ x y. branches x y no_branches) u.0 v.0, v.1)
   unique_branches (is_branch_before_end {s = s0} es f) (is_branch_before_else {d = y} {ls = l1} {s = s1} {p = p1} {q = q1} {m = m1} {r = z} es' f' c') h h' =
       let u = unique_elements es es' (refl, refl) (refl, refl) refl refl refl refl in
       let v = unique_statement f (subst (λ x. IsStatement y s1 x (kind.Else_ at q1 ∷ z)) (sym (ap behind u.1)) f') (ends s0 _ refl refl) (ends_closed s1 _ refl c') in
@@ -458,7 +460,7 @@ mutual
   unique_branches (is_branch_before_else {s = s0} es f c) (is_branch_before_else {d = y} {ls = l1} {s = s1} {p = p1} {q = q1} {m = m1} {r = z} es' f' c') h h' =
       let u = unique_elements es es' (refl, refl) (refl, refl) refl refl refl refl in
       let v = unique_statement f (subst (λ x. IsStatement y s1 x (kind.Else_ at q1 ∷ z)) (sym (ap behind u.1)) f') (ends_closed s0 _ refl c) (ends_closed s1 _ refl c') in
-      (same2 (λ x y. branches x y no_branches) u.0 v.0, v.1)
+      (ap₂ (λ x y. branches x y no_branches) u.0 v.0, v.1)
 
   pub unique_handlers : {d d' : ℕ} {hs hs' : Handlers} {ks r r' : List Terminal} → AreHandlers d hs ks r → AreHandlers d' hs' ks r' → Begins ends_list r → Begins ends_list r' → (hs ≡ hs') × (r ≡ r')
   unique_handlers are_no_handlers are_no_handlers h h' = (refl, refl)
@@ -488,7 +490,7 @@ mutual
   unique_handlers (is_handler_before_end {s = s0} o f) (is_handler_before_end {d = y} {s = s1} {p = q1} {r = z} o' f') h h' =
       let u = unique_on o o' in
       let v = unique_statement f (subst (λ x. IsStatement y s1 x (kind.End at q1 ∷ z)) (sym u.2) f') (ends s0 _ refl refl) (ends s1 _ refl refl) in
-      (same3 (λ x y w. handlers x y w no_handlers) u.0 u.1 v.0, v.1)
+      (ap₃ (λ x y w. handlers x y w no_handlers) u.0 u.1 v.0, v.1)
   unique_handlers (is_handler_before_end {s = s0} o f) (is_handler_before_else {d = y} {s = s1} {p = q1} {r = z} o' f' c') h h' =
       let u = unique_on o o' in
       let v = unique_statement f (subst (λ x. IsStatement y s1 x (kind.Else_ at q1 ∷ z)) (sym u.2) f') (ends s0 _ refl refl) (ends_closed s1 _ refl c') in
@@ -504,4 +506,4 @@ mutual
   unique_handlers (is_handler_before_else {s = s0} o f c) (is_handler_before_else {d = y} {s = s1} {p = q1} {r = z} o' f' c') h h' =
       let u = unique_on o o' in
       let v = unique_statement f (subst (λ x. IsStatement y s1 x (kind.Else_ at q1 ∷ z)) (sym u.2) f') (ends_closed s0 _ refl c) (ends_closed s1 _ refl c') in
-      (same3 (λ x y w. handlers x y w no_handlers) u.0 u.1 v.0, v.1)
+      (ap₃ (λ x y w. handlers x y w no_handlers) u.0 u.1 v.0, v.1)

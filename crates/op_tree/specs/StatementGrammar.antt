@@ -15,12 +15,26 @@ use Rattle.op_tree.specs.declared.statement.Direction.TheVariants.{To, Downto}
 
 -- An `else` behind the statement would not belong to it: it does not end in an `if` that has none.
 abbrev pub IsClosed : Statement → Type 0
+IsClosed empty = Unit {0}
+IsClosed (block ss) = Unit {0}
 IsClosed (if_then c s) = ⊥
 IsClosed (if_else c s t) = IsClosed t
+IsClosed (case_of e bs) = Unit {0}
+IsClosed (case_else e bs ss) = Unit {0}
 IsClosed (while_do c s) = IsClosed s
+IsClosed (repeat_until ss e) = Unit {0}
 IsClosed (for_to n first direction last s) = IsClosed s
 IsClosed (for_in n e s) = IsClosed s
-IsClosed other = Unit {0}
+IsClosed (try_finally ss ts) = Unit {0}
+IsClosed (try_except ss ts) = Unit {0}
+IsClosed (try_on ss hs) = Unit {0}
+IsClosed (try_on_else ss hs ts) = Unit {0}
+IsClosed (raise p e) = Unit {0}
+IsClosed (reraise p) = Unit {0}
+IsClosed (inherited p) = Unit {0}
+IsClosed (inherited_call p d) = Unit {0}
+IsClosed (call d) = Unit {0}
+IsClosed (assign d p e) = Unit {0}
 
 -- "to" | "downto"
 abbrev pub direction_of : TokenKind → Option Direction

@@ -1,6 +1,7 @@
 -- Where all names stand for what is there, each expression is sound or breaks a rule.
 use Rattle.std.proofs.Common.{◌≡◌, ℕ, pred, pos, nat_eq, Bool, ◌||◌, is_some, true, false, List, [], ◌∷◌, ◌++◌, append_assoc, append-nil, length, slice_get, Option, Some, None, refl, sym, ap, subst, ◌∙◌, arith}
 use Rattle.std.proofs.lemmas.Bool.{and_parts, eqb-true, false≢true}
+use Rattle.std.proofs.lemmas.Option.{none-some}
 use Rattle.std.specs.Option.{option_and_then, option_map}
 use Rattle.std.specs.Prelude.{if◌then◌else◌, position}
 use Rattle.op_base.specs.declared.place.Place.{Place}
@@ -48,7 +49,7 @@ use Rattle.op_typed.specs.Settled.{IsKnown, IsSettled, IsSoundValue, IsThere}
 use Rattle.op_check_expr.specs.Values.{Value, constant, computed, in_brackets, tree_of, type_of}
 use Rattle.op_check_expr.specs.declared.call.Plan.{Plan}
 use Rattle.op_check_expr.specs.declared.call.Plan.TheVariants.{Bound, Sole, Routine as RoutinePlan}
-use Rattle.op_core.proofs.Agreeing.{none_is, some_is}
+use Rattle.op_core.proofs.Agreeing.{some_is}
 use Rattle.op_typed.proofs.Constants.{bound_whole, literal_sound, numeral_whole}
 use Rattle.op_typed.proofs.TypeFacts.{nothing_kind, string_kind}
 use Rattle.op_types.specs.Assignable.{assignable}
@@ -157,8 +158,8 @@ no_parameters core sees [] e = tt
 no_parameters core sees (p ∷ ps) e = let n = eqb-true (length (p ∷ ps)) 0 (and_parts (nat_eq (length (p ∷ ps)) 0) true e).0 in absurd (omega (arith, n))
 
 bare_gives : {sees : Sees} {here : Here} → IsSettled sees here → {o : Option Plan} → Filled (IsSoundPlan sees here no_arguments) o → Filled (IsSoundValue here.core sees) (call_of here o (given_first o))
-bare_gives s (filled (Bound f of at) (e, q)) = absurd (none_is q)
-bare_gives s (filled (Sole what p) (e, q)) = absurd (none_is q)
+bare_gives s (filled (Bound f of at) (e, q)) = absurd (none-some _ q)
+bare_gives s (filled (Sole what p) (e, q)) = absurd (none-some _ q)
 bare_gives {sees} {here} s (filled (RoutinePlan id) (c, g)) = routine_gives s id c (filled none_given (no_parameters here.core sees (rows here.core.parameters c.row.parameters) g))
 
 bare_whole : {sees : Sees} {here : Here} → IsSettled sees here → (alone : Bool) (p : Position) (what : Meant) → IsThere here.core sees what → Whole (IsSoundValue here.core sees) (checked (followed (plan_for here alone p what no_arguments) (λ plan. standing (call_of here plan (given_first plan)))))
@@ -271,7 +272,7 @@ mutual
 
   sole_whole : {sees : Sees} {here : Here} → IsSettled sees here → (what : Applied) (p : Position) (args : Arguments) (e : Expression) → only_value args ≡ Some e → Whole (IsSoundValue here.core sees) (checked (means.sole here what p args))
   sole_whole {sees} {here} s what p (arguments (value e) no_arguments) f q = whole_behind (value_whole s None e) (λ v h. used_whole here.core sees s.founded p what (position_of e).place v h)
-  sole_whole s what p args f q = absurd (none_is q)
+  sole_whole s what p args f q = absurd (none-some _ q)
 
   given_whole : {sees : Sees} {here : Here} → IsSettled sees here → (args : Arguments) (qs ps : List Parameter) {o : Option GivenArguments} → Filled (AreArguments here.core sees qs) o → length ps ≡ count_of args → are_plain args ≡ true → Whole (AreArguments here.core sees (qs ++ ps)) (checked (means.given here ps o args))
   given_whole {sees} {here} s no_arguments qs [] {o} h e g = whole_standing (subst (λ xs. Filled (AreArguments here.core sees xs) o) (sym (append-nil qs)) h)
@@ -319,16 +320,16 @@ own_sound {sees} {here} s id v e = go here.routine refl (is_own here.routine id)
     at r own q (Some k) e =
         let n = numbered here.core.variables r.variables k (λ n v. (record { 0 = n }, v.of)) v e in
         subst (λ v. IsTyped here.core sees (variable_tree v.0 v.1)) n.is ((s.own id r own q n.number n.within, rw n.is_there refl), tt)
-    at r own q None e = absurd (none_is e)
+    at r own q None e = absurd (none-some _ e)
 
     by : here.routine ≡ Some id → (o : Option Routine) → slice_get here.core.routines id.0 ≡ o → result_in here.core o ≡ Some v → IsTyped here.core sees (variable_tree v.0 v.1)
     by own (Some r) q e = at r own q (position is_result (rows here.core.variables r.variables)) e
-    by own None q e = absurd (none_is e)
+    by own None q e = absurd (none-some _ e)
 
     go : (o : Option RoutineId) → here.routine ≡ o → (b : Bool) → is_own o id ≡ b → (if b then result_in here.core (slice_get here.core.routines id.0) else None) ≡ Some v → IsTyped here.core sees (variable_tree v.0 v.1)
     go (Some own) q true f e = let n = eqb-true own.0 id.0 f in by (q ∙ ap (λ n. Some (record { 0 = n })) n) (slice_get here.core.routines id.0) refl e
     go None q true f e = absurd (false≢true f)
-    go o q false f e = absurd (none_is e)
+    go o q false f e = absurd (none-some _ e)
 
 target_by_whole : {sees : Sees} {here : Here} → IsSettled sees here → (d : Designator) (id : Option RoutineId) → Whole (λ t. IsTyped here.core sees t × (is_place true here.core t ≡ true)) (checked (target_by here d id))
 target_by_whole s d (Some id) = whole_rule
@@ -339,16 +340,16 @@ named_sound {sees} {here} s n r e = go (routine_in (meaning_of here.visible (low
   where
     at : (id : RoutineId) (o : Option (VariableId × TypeId)) → own_result here id ≡ o → option_map (result_denoted n.position) o ≡ Some r → IsKnown here.core sees r
     at id (Some v) q e = subst (IsKnown here.core sees) (some_is e) (own_sound s id v q)
-    at id None q e = absurd (none_is e)
+    at id None q e = absurd (none-some _ e)
 
     go : (o : Option RoutineId) → option_map (result_denoted n.position) (option_and_then (own_result here) o) ≡ Some r → IsKnown here.core sees r
     go (Some id) e = at id (own_result here id) refl e
-    go None e = absurd (none_is e)
+    go None e = absurd (none-some _ e)
 
 first_sound : {sees : Sees} {here : Here} → IsSettled sees here → (d : Designator) (r : Denoted) → result_first here d ≡ Some r → IsKnown here.core sees r
-first_sound s (designator (named n) (selectors (call args) ss)) r e = absurd (none_is e)
+first_sound s (designator (named n) (selectors (call args) ss)) r e = absurd (none-some _ e)
 first_sound s (designator (named n) ss) r e = named_sound s n r e
-first_sound s d r e = absurd (none_is e)
+first_sound s d r e = absurd (none-some _ e)
 
 target_from_whole : {sees : Sees} {here : Here} → IsSettled sees here → (d : Designator) (o : Option Denoted) → result_first here d ≡ o → Whole (λ t. IsTyped here.core sees t × (is_place true here.core t ≡ true)) (checked (target_from here d o))
 target_from_whole {sees} {here} s d (Some r) e =

@@ -1,8 +1,10 @@
 -- Operators, casts, functions, indices and fields give typed trees.
-use Rattle.std.proofs.Common.{◌≡◌, ◌⊎◌, inl, inr, ℕ, zero, suc, ◌<◌, ◌+◌, ◌^◌, ℤ, Bool, true, false, ◌&&◌, ◌||◌, List, [], ◌∷◌, take, drop, slice_get, Option, Some, None, if◌then◌else◌, refl, sym, ap, subst, ◌∙◌, arith}
+use Rattle.std.proofs.Common.{◌≡◌, ◌⊎◌, inl, inr, ℕ, ◌+◌, ◌^◌, ℤ, Bool, true, false, ◌&&◌, ◌||◌, List, slice_get, Option, Some, None, if◌then◌else◌, refl, sym, ap, subst, ◌∙◌, arith}
 use Rattle.std.proofs.lemmas.Bool.{and_parts, or_cases}
 use Rattle.std.specs.Prelude.{nat_lt, position}
+use Rattle.std.proofs.lemmas.Option.{none-some}
 use Rattle.std.specs.Option.{IsSomeAnd, option_and_then, option_map}
+use Rattle.op_core.proofs.Rows.{row_of}
 use Rattle.op_core.specs.Needs.{IsSo}
 use Rattle.op_core.specs.Expression.{Expression as Tree, convert, field, index as index_step, prefixed, operate, apply, then as with_step}
 use Rattle.op_core.specs.FieldNames.{is_named}
@@ -36,7 +38,7 @@ use Rattle.op_check_expr.specs.Naming.{field_at, field_named, number_at}
 use Rattle.op_check_expr.specs.Operating.{bound_type, cast_by, feature_of_operands, function_tree, function_type, index_type, is_string, keeps_low_bits, length_type, operand_by, operation_tree, prefix_tree, set_beside, text_type, type_if, type_of_kind}
 use Rattle.op_typed.specs.Settled.{IsSoundValue}
 use Rattle.op_check_expr.specs.Values.{Value, as_type, index_tree, tree_of, type_of}
-use Rattle.op_core.proofs.Agreeing.{none_is, some_is}
+use Rattle.op_core.proofs.Agreeing.{some_is}
 use Rattle.op_types.proofs.Assigning.{is_assignable}
 use Rattle.op_typed.proofs.Sorting.{Stands, stands, stands_as}
 use Rattle.op_typed.proofs.TypeFacts.{Rooted, boolean_kind, char_kind, common_is_set, common_left, common_right, integer_kind, over_is_set, rooted, string_kind}
@@ -403,7 +405,7 @@ length_typed core sees checked v to f h e = go (index_type (type_at core of)) re
         let k = string_kind f in
         applied core sees Length checked (as_type core true table.string v) table.string to (operand core sees table.string v (Ordinal Char) String h q (simp k) refl (fitting assign.char_to_string))
         (inl k, subst (IsInteger core) (some_is e) (integer_kind f))
-    alone s q e = absurd (none_is e)
+    alone s q e = absurd (none-some _ e)
 
     go : (o : Option TypeId) → index_type (type_at core of) ≡ o → length_type o (sort_of core of) of ≡ Some to → IsTyped core sees (with_step (as_type core true (text_type (sort_of core of) of) v) (apply Length checked) to)
     go (Some index) q e =
@@ -416,7 +418,7 @@ bound_typed core of to f e = go (index_type (type_at core of)) refl e
   where
     alone : (s : Sort) → Stands core of s → type_if (is_ordinal s) of ≡ Some to → IsOrdinal core of × (of ≡ to)
     alone (Ordinal kind) h e = (h.0, some_is e)
-    alone s h e = absurd (none_is e)
+    alone s h e = absurd (none-some _ e)
 
     go : (o : Option TypeId) → index_type (type_at core of) ≡ o → bound_type o (sort_of core of) of ≡ Some to → IsSo core (typing.bounds of to)
     go (Some index) q e =
@@ -433,7 +435,7 @@ sort_typed core sees Sqr checked v (Ordinal Integer) to f h q e n = kind_applied
 sort_typed core sees Odd checked v (Ordinal Integer) to f h q e n = kind_applied core sees Odd checked v Integer to f h q (integer_kind f, subst (IsBoolean core) (some_is e) (boolean_kind f))
 sort_typed core sees UpCase checked v (Ordinal Char) to f h q e n = kind_applied core sees UpCase checked v Char to f h q (char_kind f, some_is e)
 sort_typed core sees Length checked v s to f h q e n = absurd (n refl)
-sort_typed core sees g checked v s to f h q e n = absurd (none_is e)
+sort_typed core sees g checked v s to f h q e n = absurd (none-some _ e)
 
 pub function_sound : (core : Core) (sees : Sees) → IsFounded core → (g : Function) (checked : Bool) (v : Value) (to : TypeId) → IsSoundValue core sees v → function_type core g (type_of v) ≡ Some to → IsSoundValue core sees (function_tree core g checked v to)
 function_sound core sees f Length checked v to h e = length_typed core sees checked v to f h e
@@ -493,27 +495,12 @@ indexes core sees a i (Some (type.Array at element)) of f e h k =
 indexes core sees a i (Some (type.DynamicArray element)) of f e h k = let q : (table.integer, element) ≡ of = some_is h in (integer_index core sees i f (subst (λ of. IsValue core sees of.0 i) (sym q) k), ap (λ of. of.1) q)
 indexes core sees a i (Some (type.OpenArray element)) of f e h k = let q : (table.integer, element) ≡ of = some_is h in (integer_index core sees i f (subst (λ of. IsValue core sees of.0 i) (sym q) k), ap (λ of. of.1) q)
 indexes core sees a i (Some type.String) of f e h k = let q : (table.integer, table.char) ≡ of = some_is h in (integer_index core sees i f (subst (λ of. IsValue core sees of.0 i) (sym q) k), subst (λ of. Kind core of.1 type.Char) q (char_kind f))
-indexes core sees a i t of f e h k = absurd (none_is h)
+indexes core sees a i t of f e h k = absurd (none-some _ h)
 
 pub index_sound : (core : Core) (sees : Sees) → IsFounded core → (a : Value) (i : Tree) (of : TypeId × TypeId) → IsSoundValue core sees a → index_types (type_at core (type_of a)) ≡ Some of → IsIndex core sees (type_at core (type_of a)) of.0 i → IsTyped core sees (with_step (tree_of a) (index_step i) of.1)
 index_sound core sees f a i of h e k =
     typed_then core sees (tree_of a) (index_step i) of.1 (tree_typed core sees a h)
     (index_typed core sees (type_at core (type_of a)) of.0 i k, subst (λ x. Indexes core (type_at core x) (typing.type_of i) of.1) (sym (tree_type a)) (indexes core sees (type_of a) i (type_at core (type_of a)) of f refl e k))
-
--- a row among those that lie together
-pub row_of : {A : Type 0} (table : List A) (run : Run) (k : ℕ) (x : A) → slice_get (rows table run) k ≡ Some x → (k < run.count) × (slice_get table (run.first + k) ≡ Some x)
-row_of {A} table run k x e = let t = taken run.count (drop run.first table) k e in (t.0, sym (dropped run.first k table) ∙ t.1)
-  where
-    dropped : (n k : ℕ) (xs : List A) → slice_get (drop n xs) k ≡ slice_get xs (n + k)
-    dropped zero k xs = let e : k ≡ 0 + k = omega arith in ap (slice_get xs) e
-    dropped (suc n) k [] = refl
-    dropped (suc n) k (y ∷ ys) = let e : suc (n + k) ≡ suc n + k = omega arith in dropped n k ys ∙ ap (slice_get (y ∷ ys)) e
-
-    taken : (n : ℕ) (xs : List A) (k : ℕ) → slice_get (take n xs) k ≡ Some x → (k < n) × (slice_get xs k ≡ Some x)
-    taken zero xs k e = absurd (none_is e)
-    taken (suc n) [] k e = absurd (none_is e)
-    taken (suc n) (y ∷ ys) zero e = (omega arith, e)
-    taken (suc n) (y ∷ ys) (suc k) e = let t = taken n ys k e in (omega arith, t.1)
 
 -- what is made of a row and its number
 pub record Numbered {A B : Type 0} (table : List A) (run : Run) (make : ℕ → A → B) (b : B) : Type 0 where
@@ -528,11 +515,11 @@ numbered {A} {B} table run k make b e = go (nat_lt (run.first + k) (2 ^ 32)) e
   where
     at : (o : Option A) → slice_get (rows table run) k ≡ o → option_map (make (run.first + k)) o ≡ Some b → Numbered table run make b
     at (Some x) q e = let r = row_of table run k x q in record { number = run.first + k; row = x; is_there = r.1; within = (omega arith, omega arith); is = some_is e }
-    at None q e = absurd (none_is e)
+    at None q e = absurd (none-some _ e)
 
     go : (c : Bool) → option_and_then (λ n. option_map (make n) (slice_get (rows table run) k)) (if c then Some (run.first + k) else None) ≡ Some b → Numbered table run make b
     go true e = at (slice_get (rows table run) k) refl e
-    go false e = absurd (none_is e)
+    go false e = absurd (none-some _ e)
 
 pub field_sound : (core : Core) (sees : Sees) (name : List ℕ) (v : Value) (f : FieldId × TypeId) → IsSoundValue core sees v → field_named core name (type_at core (type_of v)) ≡ Some f → IsTyped core sees (with_step (tree_of v) (field f.0) f.1)
 field_sound core sees name v f h e =
@@ -543,8 +530,8 @@ field_sound core sees name v f h e =
     at run (Some k) e =
         let n = numbered core.fields run k (λ n f. (record { 0 = n }, f.of)) f e in
         subst (λ f. InRun run f.0.0 × There core.fields f.0.0 (λ x. x.of ≡ f.1)) n.is (n.within, rw n.is_there refl)
-    at run None e = absurd (none_is e)
+    at run None e = absurd (none-some _ e)
 
     go : (t : Option CoreType) → field_named core name t ≡ Some f → HoldsField core t f.0 × There core.fields f.0.0 (λ x. x.of ≡ f.1)
     go (Some (type.Record run)) e = at run (position (is_named name) (rows core.fields run)) e
-    go t e = absurd (none_is e)
+    go t e = absurd (none-some _ e)

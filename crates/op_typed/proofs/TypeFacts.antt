@@ -1,10 +1,12 @@
 -- What types are where every row is as it should be: the predefined ones, and what each has by its kind and its sort.
-use Rattle.std.proofs.Common.{◌≡◌, ◌⊎◌, inl, inr, ℕ, zero, suc, ◌<◌, ◌+◌, ◌-◌, ◌^◌, nat_le, ℤ, pos, negsuc, ◌-ℤ◌, ◌≤ℤ◌, Bool, true, false, nat_eq, List, [], ◌∷◌, slice_get, take, Option, Some, None, refl, sym, ap, subst, ◌∙◌, arith}
-use Rattle.std.proofs.lemmas.Bool.{eq-eqb, eqb-true, leb-true, leb-false, or_cases}
+use Rattle.std.proofs.Common.{◌≡◌, ◌⊎◌, inl, inr, ℕ, zero, suc, ◌<◌, ◌+◌, ◌-◌, ◌^◌, nat_le, ℤ, pos, negsuc, ◌-ℤ◌, ◌≤ℤ◌, Bool, true, false, List, [], ◌∷◌, slice_get, take, Option, Some, None, refl, sym, ap, subst, ◌∙◌, arith}
+use Rattle.std.proofs.lemmas.Bool.{eqb-true, leb-true, leb-false, or_cases}
 use Rattle.std.proofs.lemmas.Int.{ints}
 use Rattle.std.specs.Option.{IsSomeAnd, option_or}
 use Rattle.std.specs.Str.{bytes_eq}
 use Rattle.std.specs.Prelude.{if◌then◌else◌, unwrap_or}
+use Rattle.op_base.proofs.Tests.{eqb-itself}
+use Rattle.op_core.proofs.OneType.{by_number}
 use Rattle.op_core.specs.Members.{Kind}
 use Rattle.op_core.specs.Sizes.{capped, integer_range, range_of, type_at}
 use Rattle.op_core.specs.Sound.{IsFounded}
@@ -195,9 +197,6 @@ stands_for core sees (n ∷ ns) all key m h = go (stands_for core sees ns (λ k 
     go others None e true g = let s : n.meaning ≡ m = cc in subst (StandsFor core sees) s (all 0 n (omega arith))
     go others None e false g = absurd (cc)
 
-pub same_id : (a b : TypeId) → is_same a b ≡ true → a ≡ b
-same_id a b h = let e = eqb-true a.0 b.0 h in (λ i. record { 0 = e i })
-
 -- ---- roots
 
 -- the kind of an enumeration is by the row of that
@@ -237,19 +236,16 @@ set_behind_is core base set h = go (type_at core (behind base 1)) refl h
     own : (b : TypeId) (s : Bool) → is_same b base ≡ s → type_at core (behind base 1) ≡ Some (type.Set b) → (if s then Some (behind base 1) else None) ≡ Some set → (behind base 1 ≡ set) × Kind core set (type.Set base)
     own b true e k g =
         let at : behind base 1 ≡ set = cc in
-        (at, subst (λ x. type_at core x ≡ Some (type.Set base)) at (k ∙ ap (λ x. Some (type.Set x)) (same_id b base e)))
+        (at, subst (λ x. type_at core x ≡ Some (type.Set base)) at (k ∙ ap (λ x. Some (type.Set x)) (by_number b base e)))
     own b false e k g = absurd (cc)
 
     go : (t : Option CoreType) → type_at core (behind base 1) ≡ t → (if is_set_of base t then Some (behind base 1) else None) ≡ Some set → (behind base 1 ≡ set) × Kind core set (type.Set base)
     go (Some (type.Set b)) e g = own b (is_same b base) refl e g
     go t e g = absurd (cc)
 
-same_there : (n : ℕ) → nat_eq n n ≡ true
-same_there n = eq-eqb n n refl
-
 -- where it stands right behind
 set_behind_by : (core : Core) (base : TypeId) → Kind core (behind base 1) (type.Set base) → set_behind core base ≡ Some (behind base 1)
-set_behind_by core base k = rw (k, same_there base.0) refl
+set_behind_by core base k = rw (k, eqb-itself base.0) refl
 
 small_integers : {core : Core} (n : ℤ) → IsFounded core → IsSmall n → Takes core (id 12) n
 small_integers {core} n f w = takes core (id 12) (id 11) n (predefined_kind f 12 (omega arith)) (let k : type_at core (id 11) ≡ Some (type.Subrange (id 4) (pos 0) (pos 31)) = predefined_kind f 11 (omega arith) in rw k w)
@@ -358,7 +354,7 @@ common_at : (core : Core) (a b : TypeId) (k j : OrdinalKind) (P : TypeId → Typ
 common_at core a b k j P e g h w = subst (λ s. P (common_by core a b s (sort_of core b))) (sym e) (subst (λ t. P (common_by core a b (Set k) t)) (sym g) (go (is_same a b) refl))
   where
     go : (s : Bool) → is_same a b ≡ s → P (if s then a else widest_set core k)
-    go true q = h (same_id a b q)
+    go true q = h (by_number a b q)
     go false q = w
 
 pub common_takes : {core : Core} (a b : TypeId) (n : ℤ) (k j : OrdinalKind) → IsFounded core → sort_of core a ≡ Set k → sort_of core b ≡ Set j → Rooted core k → InKind core k n → IsSmall n → Takes core a n ⊎ Takes core b n → Takes core (common_set core a b) n
@@ -427,11 +423,11 @@ one_or_elements core a b h = go core.types core.types h
     some test None h = absurd (cc)
 
     by_cases : (steps types : List CoreType) → (is_same a b ≡ true) ⊎ (true_of (are_one steps types) (elements (slice_get types a.0) (slice_get types b.0)) ≡ true) → (a ≡ b) ⊎ IsSomeAnd (elements (slice_get types a.0) (slice_get types b.0)) (λ p. Unit {0})
-    by_cases steps types (inl g) = inl (same_id a b g)
+    by_cases steps types (inl g) = inl (by_number a b g)
     by_cases steps types (inr g) = inr (some (are_one steps types) (elements (slice_get types a.0) (slice_get types b.0)) g)
 
     go : (steps types : List CoreType) → are_one steps types a b ≡ true → (a ≡ b) ⊎ IsSomeAnd (elements (slice_get types a.0) (slice_get types b.0)) (λ p. Unit {0})
-    go [] types g = inl (same_id a b g)
+    go [] types g = inl (by_number a b g)
     go (step ∷ steps) types g = by_cases steps types (or_cases (is_same a b) (true_of (are_one steps types) (elements (slice_get types a.0) (slice_get types b.0))) g)
 
 -- an ordinal type is one with itself alone

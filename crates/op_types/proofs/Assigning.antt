@@ -1,9 +1,10 @@
 -- What the test of assignability means.
 use Rattle.std.proofs.Common.{◌≡◌, ℕ, zero, suc, ◌≤◌, Bool, true, nat_eq, List, [], ◌∷◌, length, slice_get, Option, Some, None, refl, ap, subst, ◌∙◌, ◌⊎◌, inl, inr, arith}
-use Rattle.std.proofs.lemmas.Bool.{eq-eqb, eqb-true, or_cases, or_left, or_right}
+use Rattle.std.proofs.lemmas.Bool.{eqb-true, or_cases, or_left, or_right}
 use Rattle.std.proofs.lemmas.List.Folds.{Any-from_list_any, list_any-from_Any}
 use Rattle.std.specs.List.{Contains}
 use Rattle.std.specs.Option.{IsSomeAnd, option_and_then}
+use Rattle.op_base.proofs.Tests.{eqb-itself}
 use Rattle.op_core.specs.Members.{Descends, Extends, Implements}
 use Rattle.op_core.specs.Rows.{rows}
 use Rattle.op_core.specs.Types.{is_one_type}
@@ -172,11 +173,8 @@ mounts : (core : Core) (a b : InterfaceId) → Extends core a b → Above (paren
 mounts core a b Extends.itself = itself
 mounts core a b (Extends.further {a = k} h d) = further (some_back (slice_get core.interfaces a.0) (λ x. x.ancestor) k h) (mounts core k b d)
 
-same : (n : ℕ) → nat_eq n n ≡ true
-same n = eq-eqb n n refl
-
 extends_back : (core : Core) (a b : InterfaceId) → ChainsEnd core → Extends core a b → extends_within core.interfaces core a b ≡ true
-extends_back core a b ends h = let e = ends.interfaces a in found_by core.interfaces (parent_of core) (λ i. nat_eq i.0 b.0) a b e.0 e.1 e.2 (mounts core a b h) (same b.0)
+extends_back core a b ends h = let e = ends.interfaces a in found_by core.interfaces (parent_of core) (λ i. nat_eq i.0 b.0) a b e.0 e.1 e.2 (mounts core a b h) (eqb-itself b.0)
 
 listed_back : (core : Core) (o : Option RustClass) (i : InterfaceId) → IsSomeAnd o (λ x. Contains (rows core.listed x.interfaces) i) → Contains (listed_in core o) i
 listed_back core None i h = absurd h
@@ -195,7 +193,7 @@ fits_by core s t ends char_to_string = refl
 fits_by core s t ends (sets h) = h
 fits_by core s t ends empty_set = refl
 fits_by core s t ends (nil h) = h
-fits_by core s t ends (to_ancestor {a = a} {b = b} h) = let e = ends.classes a in found_by core.classes (ancestor_of core) (λ c. nat_eq c.0 b.0) a b e.0 e.1 e.2 (rises core a b h) (same b.0)
+fits_by core s t ends (to_ancestor {a = a} {b = b} h) = let e = ends.classes a in found_by core.classes (ancestor_of core) (λ c. nat_eq c.0 b.0) a b e.0 e.1 e.2 (rises core a b h) (eqb-itself b.0)
 fits_by core s t ends (to_interface {a = a} {b = b} h) = implements_back core a b ends h
 fits_by core s t ends (to_parent {a = a} {b = b} h) = extends_back core a b ends h
 

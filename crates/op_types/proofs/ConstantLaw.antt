@@ -1,6 +1,7 @@
 -- What `fold` answers is what the judgements of constant expressions say.
 use Rattle.std.proofs.Common.{◌≡◌, inl, inr, Bool, true, false, List, Option, Some, None, Result, Ok, Err, refl, sym}
 use Rattle.std.specs.Option.{option_map}
+use Rattle.op_base.proofs.Tests.{none_of_some}
 use Rattle.op_core.proofs.Agreeing.{first_broken, holds_map, none_broken}
 use Rattle.op_core.specs.Relations.{Holds}
 use Rattle.op_core.specs.declared.constant.Const.{Const}
@@ -16,15 +17,12 @@ use Rattle.op_types.specs.Folding.{constant, is_constant}
 use Rattle.op_types.specs.Names.{Named}
 use Rattle.op_types.specs.declared.constant.Constant.{Constant}
 
-none_is : {A : Type 0} {a : A} → Some a ≡ None → ⊥
-none_is e = absurd (cc)
-
 valueless : {t : Option Constant} {T : Constant → Type 0} → Holds t T → None ≡ option_map (λ a. a.value) t → Without T
 valueless h e a t = absurd (let k = (h a).1 t in cc)
 
 answered : (core : Core) (names : List Named) (e : Expression) (b : Bool) → is_constant core names e ≡ b → (r : Result (Option Const) CheckError) → FoldIs b (constant core names e) r → Folds core names e r
 answered core names e false q (Ok None) f = inl q
-answered core names e false q (Ok (Some v)) f = absurd (none_is f)
+answered core names e false q (Ok (Some v)) f = absurd (none_of_some f)
 answered core names e false q (Err (Refused r)) f = absurd f
 answered core names e false q (Err NoMemory) f = tt
 answered core names e true q (Ok None) f =

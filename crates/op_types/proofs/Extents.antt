@@ -3,6 +3,7 @@ use Rattle.std.proofs.Common.{◌≡◌, false, ℕ, zero, suc, ◌+◌, ◌<◌
 use Rattle.std.proofs.lemmas.Option.{slice_get_within}
 use Rattle.std.specs.List.{All, AllByRecursion, fold}
 use Rattle.std.specs.Prelude.{unwrap_or}
+use Rattle.op_base.proofs.Lists.{slice_get-front}
 use Rattle.op_core.specs.Rows.{rows}
 use Rattle.op_core.specs.Sizes.{IsBehind, KeepsExtents, extended, extent_by, extent_of, in_order, is_com, plain, range_of, rounded, times, type_at, values_of}
 use Rattle.op_core.specs.declared.class.Interface.{Interface as Face}
@@ -17,11 +18,6 @@ use Rattle.op_types.specs.declared.enter.Sets.{Sets}
 use Rattle.op_types.specs.declared.enter.Sets.TheVariants.{None as None', OfAll, OfFirst}
 
 -- ---- rows behind others
-
-pub front : {A : Type 0} (xs ys : List A) (n : ℕ) → n < length xs → slice_get (xs ++ ys) n ≡ slice_get xs n
-front [] ys n h = absurd (omega arith)
-front (x ∷ xs) ys zero h = refl
-front (x ∷ xs) ys (suc n) h = front xs ys n (omega (arith, h))
 
 pub seam : {A : Type 0} (xs : List A) (y : A) (n : ℕ) → n ≡ length xs → slice_get (xs ++ y ∷ []) n ≡ Some y
 seam [] y zero h = refl
@@ -87,8 +83,8 @@ keeps core t k b = record {
 
     still : (n : ℕ) (u : CoreType) → n ≤ length core.types → IsBehind core.fields core.interfaces n u → extent_by (extent_of core) core (Some u) ≡ extent_by (extent_of (with_type core t)) (with_type core t) (Some u)
     still n u h c = same_extent core (with_type core t) n u refl refl
-        (λ of l. ap (λ x. unwrap_or x (plain 4 false)) (sym (front core.extents (e ∷ []) of.0 (omega (arith, k.count, h, l)))))
-        (λ of l. sym (front core.types (t ∷ []) of.0 (omega (arith, h, l)))) c
+        (λ of l. ap (λ x. unwrap_or x (plain 4 false)) (sym (slice_get-front core.extents (e ∷ []) of.0 (omega (arith, k.count, h, l)))))
+        (λ of l. sym (slice_get-front core.types (t ∷ []) of.0 (omega (arith, h, l)))) c
 
     behind : (n : ℕ) (u : CoreType) → Row core.types t n u → IsBehind core.fields core.interfaces n u
     behind n u (old h) = k.behind n u h
@@ -97,7 +93,7 @@ keeps core t k b = record {
     each : (n : ℕ) (u : CoreType) → Row core.types t n u → slice_get (core.extents ++ e ∷ []) n ≡ Some (extent_by (extent_of (with_type core t)) (with_type core t) (Some u))
     each n u (old h) =
         let l : n < length core.types = slice_get_within core.types n u h in
-        front core.extents (e ∷ []) n (omega (arith, k.count, l))
+        slice_get-front core.extents (e ∷ []) n (omega (arith, k.count, l))
         ∙ k.each n u h
         ∙ ap Some (still n u (omega (arith, l)) (k.behind n u h))
     each n u (last h f) =

@@ -1,6 +1,6 @@
 -- What nodes with lists mean as constants, and what stands behind faults.
-use Rattle.std.proofs.Common.{◌≡◌, ℕ, ◌<◌, ◌≤◌, ◌+◌, Bool, true, false, ◌&&◌, List, [], ◌∷◌, length, drop, drop-cons, add-one, get_or, Option, None, Some, Result, Ok, Err, IfOk, refl, sym, ap, subst, ◌∙◌, arith}
-use Rattle.std.proofs.lemmas.List.{drop_all}
+use Rattle.std.proofs.Common.{◌≡◌, ℕ, ◌<◌, ◌≤◌, ◌+◌, Bool, true, false, ◌&&◌, List, [], ◌∷◌, length, drop, drop-cons, add-one, get_or, Option, None, Some, refl, sym, ap, subst, ◌∙◌}
+use Rattle.std.proofs.lemmas.List.{drop_all, nil_from_length}
 use Rattle.op_base.specs.declared.place.Place.{Place}
 use Rattle.op_base.specs.declared.rule.Refusal.{Refusal}
 use Rattle.op_core.proofs.Agreeing.{agrees_standing, holds_entry}
@@ -145,13 +145,5 @@ pub literal_finds : (core : Core) (names : List Named) (text : List ℕ) (p : Po
 literal_finds core names text p no_selectors s given h = subst (Finds (is_constant core names (literal text p no_selectors)) (constant core names (literal text p no_selectors)) s s) (sym h) (refl, (refl, refl))
 literal_finds core names text p (selectors x ss) s given h = subst (Finds (is_constant core names (literal text p (selectors x ss))) (constant core names (literal text p (selectors x ss))) s s) (sym h) refl
 
-pub map_ok : {A E : Type 0} {P Q : A → Type 0} (r : Result A E) → ((a : A) → P a → Q a) → IfOk r P → IfOk r Q
-map_ok (Ok a) f h = f a h
-map_ok (Err e) f h = h
-
-pub nothing : {A : Type 0} (xs : List A) → length xs ≡ 0 → xs ≡ []
-nothing [] h = refl
-nothing (x ∷ xs) h = absurd (omega (arith, h))
-
 pub one_given : (list others : List Argument) (first : Argument) → list ≡ first ∷ others → length others ≡ 0 → arguments_of list ≡ arguments (argument_of first) no_arguments
-one_given list others first e h = ap arguments_of (e ∙ ap (λ os. first ∷ os) (nothing others h))
+one_given list others first e h = ap arguments_of (e ∙ ap (λ os. first ∷ os) (nil_from_length others h))

@@ -8,7 +8,7 @@ use Rattle.op_core.specs.declared.error.CheckError.TheVariants.{Refused, NoMemor
 use Rattle.op_core.specs.declared.error.CheckError.{CheckError}
 use Rattle.op_core.specs.declared.program.Core.{Core}
 use Rattle.op_judgement.specs.Judgement.{Breaks, Judgement, Means, checked}
-use Rattle.op_tree.specs.Expression.{Expression, chain, prefixed, set, designated, Operations, no_operations, operation, Elements, no_elements, elements, Element, one, range, Designator, designator, named, bracketed, no_selectors, selectors, member, call, Arguments, no_arguments, arguments, value}
+use Rattle.op_tree.specs.Expression.{Expression, chain, prefixed, number, nil, set, literal, designated, inherited, Operations, no_operations, operation, Elements, no_elements, elements, Element, one, range, Designator, designator, named, bracketed, no_selectors, selectors, member, call, Arguments, no_arguments, arguments, value}
 use Rattle.op_types.specs.ConstantParts.{joined_name}
 use Rattle.op_types.specs.Folding.{constant, is_constant}
 use Rattle.op_types.specs.Names.{Named, lower, meaning_of}
@@ -22,9 +22,12 @@ abbrev mutual
   pub IsSpoiled : List Named → Expression → Type 0
   IsSpoiled names (chain first rest) = IsSpoiled names first ⊎ OperandsAreSpoiled names rest
   IsSpoiled names (prefixed o p e) = IsSpoiled names e
+  IsSpoiled names (number n p) = ⊥
+  IsSpoiled names (nil p) = ⊥
   IsSpoiled names (set p es) = ElementsAreSpoiled names es
+  IsSpoiled names (literal text p s) = ⊥
   IsSpoiled names (designated d) = DesignatorIsSpoiled names d
-  IsSpoiled names _ = ⊥
+  IsSpoiled names (inherited p d) = ⊥
 
   pub OperandsAreSpoiled : List Named → Operations → Type 0
   OperandsAreSpoiled names no_operations = ⊥

@@ -3,7 +3,7 @@ use Rattle.std.specs.Option.{option_and_then}
 use Rattle.std.specs.Prelude.{ℕ, pos, ◌+◌, ◌%◌, Bool, true, false, List, [], ◌∷◌, ◌++◌, codes, Option, Some, None, is_some, if◌then◌else◌}
 use Rattle.op_base.specs.declared.place.Place.{Place}
 use Rattle.op_core.specs.Sizes.{capped}
-use Rattle.op_core.specs.declared.constant.Const.TheVariants.{Ordinal, Text, Set}
+use Rattle.op_core.specs.declared.constant.Const.TheVariants.{Ordinal, Text, Set, Nil}
 use Rattle.op_core.specs.declared.constant.Const.{Const}
 use Rattle.op_core.specs.declared.ids.TypeId.{TypeId}
 use Rattle.op_core.specs.declared.operation.Function.TheVariants.{Length, Low, High, Ord, Succ, Pred, Abs, Sqr, Odd, UpCase}
@@ -65,8 +65,10 @@ joined a b = plus (plus a b) (nodes 1)
 
 -- a set takes a word
 abbrev own_words : Const → ℕ
+own_words (Ordinal n) = 0
+own_words (Text bytes) = 0
 own_words (Set members) = 1
-own_words _ = 0
+own_words Nil = 0
 
 abbrev pub made : Const → TypeId → Weight → Constant
 made v of w = record { value = v; of = of; weight = plus w (record { nodes = 0; words = own_words v }) }
@@ -105,8 +107,10 @@ abbrev pub no_members : Constant
 no_members = loose [] table.empty_set (nodes 0)
 
 abbrev pub members_of : Const → List ℕ
+members_of (Ordinal n) = []
+members_of (Text bytes) = []
 members_of (Set members) = members
-members_of _ = []
+members_of Nil = []
 
 abbrev pub start_of_element : Element → Place
 start_of_element (one e) = start_of e
@@ -154,8 +158,14 @@ type_of_name names (designator (named n) (selectors (member m) no_selectors)) = 
 type_of_name names _ = None
 
 abbrev pub type_of_value : List Named → Expression → Option (TypeId × Place)
+type_of_value names (chain first rest) = None
+type_of_value names (prefixed o p e) = None
+type_of_value names (number n p) = None
+type_of_value names (nil p) = None
+type_of_value names (set p es) = None
+type_of_value names (literal text p s) = None
 type_of_value names (designated d) = type_of_name names d
-type_of_value names _ = None
+type_of_value names (inherited p d) = None
 
 -- the type that the one argument of a call names
 abbrev pub type_named : List Named → Arguments → Option (TypeId × Place)

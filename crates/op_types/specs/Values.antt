@@ -7,7 +7,7 @@ use Rattle.std.specs.Option.{option_and_then, option_map}
 use Rattle.op_base.specs.Arithmetic.{shift_count}
 use Rattle.op_core.specs.Sizes.{integer_range, range_of, type_at}
 use Rattle.op_core.specs.declared.constant.Const.{Const}
-use Rattle.op_core.specs.declared.constant.Const.TheVariants.{Ordinal, Text, Set}
+use Rattle.op_core.specs.declared.constant.Const.TheVariants.{Ordinal, Text, Set, Nil}
 use Rattle.op_core.specs.declared.ids.TypeId.{TypeId}
 use Rattle.op_core.specs.declared.operation.Function.{Function}
 use Rattle.op_core.specs.declared.operation.Function.TheVariants.{Length, Low, Ord, Succ, Pred, Abs, Sqr, Odd, UpCase}
@@ -107,13 +107,16 @@ on_sets o a b = Some (Set (combined o a b))
 -- the number of an ordinal value; nil is none
 abbrev pub number_of : Const → ℤ
 number_of (Ordinal n) = n
-number_of _ = pos 0
+number_of (Text bytes) = pos 0
+number_of (Set members) = pos 0
+number_of Nil = pos 0
 
 -- a Char where a text is needed is one of one byte
 abbrev pub bytes_of : Const → List ℕ
-bytes_of (Text bytes) = bytes
 bytes_of (Ordinal n) = cast_unsigned w32 n % 256 ∷ []
-bytes_of _ = []
+bytes_of (Text bytes) = bytes
+bytes_of (Set members) = []
+bytes_of Nil = []
 
 abbrev pub by_values : Operator → Const → Const → Option Const
 by_values o (Set a) (Set b) = on_sets o a b

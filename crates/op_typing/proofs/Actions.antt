@@ -2,6 +2,7 @@
 use Rattle.std.proofs.Common.{◌≡◌, ◌<◌, ◌⊎◌, inl, inr, ℕ, ◌+◌, ◌^◌, Bool, true, false, List, [], ◌∷◌, length, Option, Some, if◌then◌else◌, refl, sym, ap, subst, ◌∙◌, arith}
 use Rattle.std.proofs.lemmas.Int.{ints}
 use Rattle.std.specs.Prelude.{ℤ, pos, negsuc, IsSomeAnd}
+use Rattle.std.proofs.lemmas.Option.{none-some, same_Some}
 use Rattle.op_core.specs.Sizes.{range_of, type_at, values_of}
 use Rattle.op_core.specs.Sound.{IsSound}
 use Rattle.op_core.specs.Typing.{Applies, element_of}
@@ -21,7 +22,7 @@ use Rattle.op_tree.specs.declared.operator.Operator.{Operator}
 use Rattle.op_tree.specs.declared.operator.Operator.TheVariants.{Add, In_, Subtract}
 use Rattle.op_tree.specs.declared.operator.PrefixOperator.{PrefixOperator}
 use Rattle.op_tree.specs.declared.operator.PrefixOperator.TheVariants.{Not, Plus, Minus}
-use Rattle.op_typing.proofs.Rows.{none_some, not_true, some_is}
+use Rattle.op_typing.proofs.Rows.{not_true}
 use Rattle.op_typing.proofs.Types.{IsWord, fits, high_word, low_word, range_words}
 use Rattle.op_typing.specs.Simple.{IsSimpleProgram, IsSolidType, is_solid}
 use Rattle.op_typing.specs.Typed.{AreTyped, IsShortText, IsTypedAction, IsTypedItem}
@@ -65,13 +66,13 @@ sequence_is (Some (OpenArray element)) h (inr s) = absurd (not_true h)
 sequence_is _ h (inr s) = absurd s
 
 measured_word : (function : Function) (range : Option (ℤ × ℤ)) (n : ℤ) → ((ends : ℤ × ℤ) → range ≡ Some ends → IsWord ends.0 × IsWord ends.1) → (function ≡ Length → values_of range < 2 ^ 31) → measured_by function range ≡ Some n → IsWord n
-measured_word Low (Some ends) n words few e = subst IsWord (some_is e) (words ends refl).0
-measured_word High (Some ends) n words few e = subst IsWord (some_is e) (words ends refl).1
-measured_word Length (Some ends) n words few e = let less = few refl in subst IsWord (some_is e) (omega (arith, ints, less))
-measured_word _ _ n words few e = absurd (none_some e)
+measured_word Low (Some ends) n words few e = subst IsWord (same_Some _ _ e) (words ends refl).0
+measured_word High (Some ends) n words few e = subst IsWord (same_Some _ _ e) (words ends refl).1
+measured_word Length (Some ends) n words few e = let less = few refl in subst IsWord (same_Some _ _ e) (omega (arith, ints, less))
+measured_word _ _ n words few e = absurd (none-some _ e)
 
 text_words : (bytes : List ℕ) → IsShortText bytes → (ends : ℤ × ℤ) → Some (pos 1, pos (length bytes)) ≡ Some ends → IsWord ends.0 × IsWord ends.1
-text_words bytes short ends e = let less = short.0 in subst (λ ends. IsWord ends.0 × IsWord ends.1) (some_is e) (omega (arith, ints), omega (arith, ints, less))
+text_words bytes short ends e = let less = short.0 in subst (λ ends. IsWord ends.0 × IsWord ends.1) (same_Some _ _ e) (omega (arith, ints), omega (arith, ints, less))
 
 module _ (core : Core) (sound : IsSound core) (simple : IsSimpleProgram core) (r : ℕ) where
   moved_typed : (o : Operator) (distance : ℤ) → IsWord distance → (checked : Bool) (of : TypeId) (t : Option CoreType) (n : ℕ) → AreTyped core r (acts (moved core o distance checked of t n))

@@ -1,7 +1,8 @@
 -- Where a routine that is called has its parameters and its result.
 use Rattle.std.proofs.Common.{◌≡◌, ℕ, zero, suc, ◌+◌, List, [], ◌∷◌, ◌++◌, length, map, Option, Some, slice_get, sym, ap, subst, ◌∙◌}
-use Rattle.std.proofs.lemmas.Option.{slice_get-map}
+use Rattle.std.proofs.lemmas.Option.{none-some, slice_get-map}
 use Rattle.std.specs.Option.{option_map}
+use Rattle.op_core.proofs.Rows.{row_at}
 use Rattle.op_core.specs.Rows.{rows}
 use Rattle.op_core.specs.Sound.{IsSound, RoleAndType, role_and_type}
 use Rattle.op_core.specs.declared.ids.TypeId.{TypeId}
@@ -13,7 +14,7 @@ use Rattle.op_core.specs.declared.routine.Routine.{Routine}
 use Rattle.op_core.specs.declared.routine.Variable.{Variable}
 use Rattle.op_meaning.specs.Shapes.{result_of_routine, variables_of}
 use Rattle.op_typing.proofs.Paths.{has_rows, parameters_are, rows_of}
-use Rattle.op_typing.proofs.Rows.{none_some, of_some, row_at, row_low}
+use Rattle.op_typing.proofs.Rows.{of_some, row_low}
 use Rattle.op_typing.proofs.Storing.{mapped_is, result_at, result_number}
 use Rattle.op_typing.specs.Simple.{IsSimpleProgram}
 use Rattle.op_typing.specs.Typed.{HasVariable, parameters_of}
@@ -22,7 +23,7 @@ abbrev pub RowIs : Role → TypeId → Variable → Type 0
 RowIs role of v = (v.role ≡ role) × (v.of ≡ of)
 
 front_at : (ps : List ParameterRow) (result : Option TypeId) (others : List RoleAndType) (k : ℕ) (p : ParameterRow) → slice_get ps k ≡ Some p → slice_get (rows_of ps result ++ others) k ≡ Some (Parameter p.mode, p.of)
-front_at [] result others k p e = absurd (none_some e)
+front_at [] result others k p e = absurd (none-some _ e)
 front_at (q ∷ ps) result others zero p e = ap (option_map (λ p. (Parameter p.mode, p.of))) e
 front_at (q ∷ ps) result others (suc k) p e = front_at ps result others k p e
 

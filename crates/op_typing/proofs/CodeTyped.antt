@@ -1,6 +1,8 @@
 -- The managed code of a sound program without strings and references is typed.
 use Rattle.std.proofs.Common.{◌≡◌, ◌<◌, ◌≤◌, ℕ, zero, suc, ◌+◌, Bool, true, false, List, [], ◌∷◌, ◌++◌, length, take, drop, Option, Some, None, slice_get, nat_eq, if◌then◌else◌, refl, sym, ap, subst, ◌∙◌, arith}
+use Rattle.std.proofs.lemmas.Bool.{false_from_ne_true}
 use Rattle.std.proofs.lemmas.List.Elements.{All-append, All-cons, All-drop, All-nil}
+use Rattle.std.proofs.lemmas.Option.{none-some, same_Some}
 use Rattle.std.specs.List.{All, flat_map}
 use Rattle.std.specs.Option.{option_map}
 use Rattle.std.specs.Prelude.{Box}
@@ -29,7 +31,7 @@ use Rattle.op_typing.proofs.Actions.{both}
 use Rattle.op_typing.proofs.Blocks.{blocks_typed}
 use Rattle.op_typing.proofs.Founds.{env_at}
 use Rattle.op_typing.proofs.Bodies.{statements_typed}
-use Rattle.op_typing.proofs.Rows.{each_row, if_some, none_some, of_some, some_and, some_is}
+use Rattle.op_typing.proofs.Rows.{each_row, if_some, of_some, some_and}
 use Rattle.op_typing.proofs.Types.{solid_is}
 use Rattle.op_typing.specs.Claims.{CodeIsTyped, ItemsAreTyped, MirIsTyped}
 use Rattle.op_typing.specs.Simple.{AreSimpleStatements, IsProcedure, IsSimpleProgram, IsSimpleRoutine, IsSimpleUnit, IsSolidType}
@@ -62,16 +64,12 @@ due_by None = []
 due_by (Some q) = make_due q ∷ []
 
 mapped_first : (o : Option (Box Initial Global)) (value : FirstValue) → option_map (λ i. first_value_of i.value) o ≡ Some value → (b : Box Initial Global) × (o ≡ Some b) × (first_value_of b.value ≡ value)
-mapped_first None value e = absurd (none_some e)
-mapped_first (Some b) value e = (b, refl, some_is e)
+mapped_first None value e = absurd (none-some _ e)
+mapped_first (Some b) value e = (b, refl, same_Some _ _ e)
 
 first_is : (o : Option Variable) (value : FirstValue) → first_by o ≡ Some value → (v : Variable) × (b : Box Initial Global) × (o ≡ Some v) × (v.first_value ≡ Some b) × (first_value_of b.value ≡ value)
-first_is None value e = absurd (none_some e)
+first_is None value e = absurd (none-some _ e)
 first_is (Some v) value e = let (b, is_there, same) = mapped_first v.first_value value e in (v, b, refl, is_there, same)
-
-own_by : (b : Bool) → (b ≡ true → ⊥) → b ≡ false
-own_by true h = absurd (h refl)
-own_by false h = refl
 
 module _ (core : Core) (stack : ℕ) (sound : IsSound core) (nesting : IsSoundNesting core) (simple : IsSimpleProgram core) (r : ℕ) where
   -- ---- first values
@@ -83,7 +81,7 @@ module _ (core : Core) (stack : ℕ) (sound : IsSound core) (nesting : IsSoundNe
       let fits = row_fits core sound n row b is_row is_first in
       let of : row.of ≡ type_of_local core r v = sym (ap type_of_row is_row) in
       let solid = each_row (λ v. IsSolidType core v.of) core.variables n row simple.variables is_row in
-      let own = own_by (is_reference row.role) (λ refers. none_some (sym (each_row (λ v. is_reference v.role ≡ true → v.first_value ≡ None) core.variables n row simple.references is_row refers) ∙ is_first)) in
+      let own = false_from_ne_true (is_reference row.role) (λ refers. none-some _ (sym (each_row (λ v. is_reference v.role ≡ true → v.first_value ≡ None) core.variables n row simple.references is_row refers) ∙ is_first)) in
       let there = of_some (slice_get core.variables n) (OwnValue row.of) row is_row (refl, own) in
       subst (λ of. IsTypedAction core r (begin_with v of value)) of (subst (λ value. IsTypedAction core r (begin_with v row.of value)) same ((few, there), fits.0, solid_is core row.of solid, fits.1))
 
@@ -128,7 +126,7 @@ module _ (core : Core) (stack : ℕ) (sound : IsSound core) (nesting : IsSoundNe
   part_typed (Some q) h k =
       let (y, at, facts) = some_and (slice_get core.routines q.0) (λ y. (y.owner ≡ OfUnit) × (y.parameters.count ≡ 0)) h in
       let (z, same, nothing_given) = some_and (slice_get core.routines q.0) (λ y. y.result ≡ None) k in
-      let gives : y.result ≡ None = ap (λ y. y.result) (some_is (sym at ∙ same)) ∙ nothing_given in
+      let gives : y.result ≡ None = ap (λ y. y.result) (same_Some _ _ (sym at ∙ same)) ∙ nothing_given in
       let enters : IsTypedCall core r q.0 [] nowhere = record {
         callee = y;
         there = at;

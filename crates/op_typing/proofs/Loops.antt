@@ -1,7 +1,7 @@
 -- The items of loops that count, and of loops over collections, are typed.
 use Rattle.std.proofs.Common.{◌≡◌, ◌⊎◌, inl, inr, ℕ, ◌+◌, [], ◌∷◌, Option, Some, None, slice_get, refl, sym, ap, subst, arith}
 use Rattle.std.proofs.lemmas.Int.{ints}
-use Rattle.std.proofs.lemmas.Option.{slice_get_within}
+use Rattle.std.proofs.lemmas.Option.{none-some, same_Some, slice_get_within}
 use Rattle.op_constants.proofs.SoundFirst.{small_type}
 use Rattle.op_core.specs.Members.{Kind}
 use Rattle.op_core.specs.Sizes.{type_at}
@@ -29,7 +29,6 @@ use Rattle.op_tree.specs.declared.statement.Direction.TheVariants.{To}
 use Rattle.op_typing.proofs.Actions.{both, converted_typed}
 use Rattle.op_typing.proofs.Founds.{env_at, owned}
 use Rattle.op_typing.proofs.Paths.{element_reaches, path_then, temporary_path}
-use Rattle.op_typing.proofs.Rows.{none_some, some_is}
 use Rattle.op_typing.proofs.Storing.{converts_same, stored_typed, variable_stored, variable_there}
 use Rattle.op_typing.proofs.Types.{fits, high_word, low_word, one_shape, ordinal_single, solid_is}
 use Rattle.op_typing.specs.Simple.{IsSimpleProgram, IsSolidType}
@@ -124,10 +123,10 @@ module _ (core : Core) (sound : IsSound core) (simple : IsSimpleProgram core) (r
   collection_typed here of element id v into body gives sees is_row converts h = by (type_at core of) refl gives
     where
       by : (o : Option CoreType) → type_at core of ≡ o → Gives o element → AreTyped core r (in_collection (env_at core r) here of o id into body)
-      by (Some (Array at each)) e (inl g) = array_typed here of at each id v into body e sees is_row (subst (λ from. Converts core into from v.of) (sym (some_is g)) converts) h
-      by (Some (Array at each)) e (inr (inl g)) = absurd (none_some g)
+      by (Some (Array at each)) e (inl g) = array_typed here of at each id v into body e sees is_row (subst (λ from. Converts core into from v.of) (sym (same_Some _ _ g)) converts) h
+      by (Some (Array at each)) e (inr (inl g)) = absurd (none-some _ g)
       by (Some (Array at each)) e (inr (inr g)) = absurd (cc)
-      by (Some (Set base)) e (inl g) = absurd (none_some g)
-      by (Some (Set base)) e (inr (inl g)) = set_typed here of base id v into body e sees is_row (subst (λ from. Converts core into from v.of) (sym (some_is g)) converts) h
+      by (Some (Set base)) e (inl g) = absurd (none-some _ g)
+      by (Some (Set base)) e (inr (inl g)) = set_typed here of base id v into body e sees is_row (subst (λ from. Converts core into from v.of) (sym (same_Some _ _ g)) converts) h
       by (Some (Set base)) e (inr (inr g)) = absurd (cc)
       by _ e g = tt

@@ -1,8 +1,7 @@
 -- Where paths begin, and how steps lead on.
-use Rattle.std.proofs.Common.{◌≡◌, ◌<◌, ◌≤◌, inl, inr, ℕ, zero, suc, ◌+◌, ◌-◌, Bool, true, false, ◌&&◌, List, [], ◌∷◌, ◌++◌, length, map, nat_le, nat_lt, Option, Some, None, slice_get, if◌then◌else◌, refl, sym, ap, subst, ◌∙◌, arith}
-use Rattle.std.proofs.lemmas.Bool.Decides.{nat_tests}
-use Rattle.std.proofs.lemmas.Bool.{and_from, and_parts}
-use Rattle.std.proofs.lemmas.Option.{slice_get-map}
+use Rattle.std.proofs.Common.{◌≡◌, ◌<◌, inl, inr, ℕ, zero, suc, ◌+◌, ◌-◌, Bool, true, false, ◌&&◌, List, [], ◌∷◌, ◌++◌, length, map, nat_le, nat_lt, Option, Some, None, slice_get, if◌then◌else◌, refl, sym, ap, subst, ◌∙◌, arith}
+use Rattle.std.proofs.lemmas.Bool.{and_from, and_parts, both_ways, le-leb, leb-true, lt-ltb, ltb-true}
+use Rattle.std.proofs.lemmas.Option.{none-some, same_Some, slice_get-map}
 use Rattle.std.specs.List.{All}
 use Rattle.std.specs.Option.{option_and_then, option_map, option_to_list}
 use Rattle.std.specs.Prelude.{ℤ, IsSomeAnd, IsTrue}
@@ -26,7 +25,7 @@ use Rattle.op_core.specs.declared.types.CoreType.TheVariants.{Record, Array}
 use Rattle.op_meaning.specs.Expressions.{counted_by, counted_of, element_step, high_in, high_of, low_in, low_of}
 use Rattle.op_meaning.specs.Paths.{Root, in_global, in_local, through, in_temporary, Step, field, element, Path, path_to, root_of, with_step}
 use Rattle.op_meaning.specs.Shapes.{field_number, field_type, first_field, is_local, is_reference, part_type, refers, variables_in, variables_of}
-use Rattle.op_typing.proofs.Rows.{each_row, none_some, not_true, of_some, row_in, some_and, some_is}
+use Rattle.op_typing.proofs.Rows.{each_row, not_true, of_some, row_in, some_and}
 use Rattle.op_typing.specs.Simple.{IsSimpleProgram, IsSimpleRoutine}
 use Rattle.op_typing.specs.Typed.{HasVariable, PathTo, RootIs, parameters_in, parameters_of}
 
@@ -88,38 +87,23 @@ block_row o = IsTrue (is_of_block o.0)
 abbrev pub rows_of : List ParameterRow → Option TypeId → List RoleAndType
 rows_of ps result = map (λ p. (Parameter p.mode, p.of)) ps ++ map (λ of. (Result, of)) (option_to_list result)
 
-not_both : (b : Bool) → b ≡ true → b ≡ false → ⊥
-not_both b e f = not_true (sym f ∙ e)
-
 -- what stands for something else is a parameter
 reference_row : (ps : List ParameterRow) (result : Option TypeId) (others : List RoleAndType) (k : ℕ) (o : RoleAndType) → All block_row others → slice_get (rows_of ps result ++ others) k ≡ Some o → is_reference o.0 ≡ true → k < length ps
-reference_row [] None others k o blocks e h = absurd (not_both (is_reference o.0) h (block_is_own o.0 (each_row block_row others k o blocks e)))
-reference_row [] (Some of) others zero o blocks e h = absurd (not_true (ap (λ o. is_reference o.0) (some_is e) ∙ h))
-reference_row [] (Some of) others (suc k) o blocks e h = absurd (not_both (is_reference o.0) h (block_is_own o.0 (each_row block_row others k o blocks e)))
+reference_row [] None others k o blocks e h = absurd (both_ways (is_reference o.0) (block_is_own o.0 (each_row block_row others k o blocks e)) h)
+reference_row [] (Some of) others zero o blocks e h = absurd (not_true (ap (λ o. is_reference o.0) (same_Some _ _ e) ∙ h))
+reference_row [] (Some of) others (suc k) o blocks e h = absurd (both_ways (is_reference o.0) (block_is_own o.0 (each_row block_row others k o blocks e)) h)
 reference_row (p ∷ ps) result others zero o blocks e h = omega arith
 reference_row (p ∷ ps) result others (suc k) o blocks e h = let few = reference_row ps result others k o blocks e h in omega (arith, few)
 
 alone : (core : Core) (r m : ℕ) → enclosing_of core r ≡ None → Encloses core r m → m ≡ r
 alone core r m none itself = refl
-alone core r m none (further e h) = absurd (none_some (sym none ∙ e))
-
-at_most : (a b : ℕ) → nat_le a b ≡ true → a ≤ b
-at_most a b h = grind (arith, nat_tests)
-
-below : (a b : ℕ) → nat_lt a b ≡ true → a < b
-below a b h = grind (arith, nat_tests)
-
-at_most_test : (a b : ℕ) → a ≤ b → nat_le a b ≡ true
-at_most_test a b h = grind (arith, nat_tests)
-
-below_test : (a b : ℕ) → a < b → nat_lt a b ≡ true
-below_test a b h = grind (arith, nat_tests)
+alone core r m none (further e h) = absurd (none-some _ (sym none ∙ e))
 
 inside_is : (run : Run) (n : ℕ) → (nat_le run.first n && nat_lt n (run.first + run.count)) ≡ true → InRun run n
-inside_is run n h = let both = and_parts _ _ h in (at_most run.first n both.0, below n (run.first + run.count) both.1)
+inside_is run n h = let both = and_parts _ _ h in (leb-true run.first n both.0, ltb-true n (run.first + run.count) both.1)
 
 inside_test : (run : Run) (n : ℕ) → InRun run n → (nat_le run.first n && nat_lt n (run.first + run.count)) ≡ true
-inside_test run n h = and_from _ _ (at_most_test run.first n h.0) (below_test n (run.first + run.count) h.1)
+inside_test run n h = and_from _ _ (le-leb run.first n h.0) (lt-ltb n (run.first + run.count) h.1)
 
 -- in a routine of a simple program
 module _ (core : Core) (sound : IsSound core) (simple : IsSimpleProgram core) (r : ℕ) (x : Routine) (is_there : slice_get core.routines r ≡ Some x) where
@@ -187,7 +171,7 @@ module _ (core : Core) (sound : IsSound core) (simple : IsSimpleProgram core) (r
               let here = subst (λ m. There core.routines m (λ y. InRun y.variables id.0)) (alone core r m none encloses) there in
               let (y, at, inside) = some_and (slice_get core.routines r) (λ y. InRun y.variables id.0) here in
               let near = inside_test (variables_of core r) id.0 (subst (λ run. InRun run id.0) (sym (ap variables_in at)) inside) in
-              absurd (not_both (is_local core r id) near far)
+              absurd (both_ways (is_local core r id) far near)
 
       by_local : (b : Bool) → is_local core r id ≡ b → RootIs core r (if b then (if refers (slice_get core.variables id.0) then through k else in_local k) else in_global id.0) v.of
       by_local true near = by_refers (inside_is (variables_of core r) id.0 near) (refers (slice_get core.variables id.0)) refl

@@ -2,17 +2,12 @@
 use Rattle.std.proofs.Common.{◌≡◌, ◌<◌, ℕ, zero, suc, ◌+◌, ◌-◌, List, [], ◌∷◌, take, drop, Option, Some, None, slice_get, refl, sym, ap, subst, ◌∙◌, arith, true, false}
 use Rattle.std.specs.List.{All}
 use Rattle.std.specs.Prelude.{IsSomeAnd, IfSome}
-use Rattle.std.proofs.lemmas.Option.{slice_get_within}
+use Rattle.std.proofs.lemmas.Option.{none-some, same_Some, slice_get_within}
 use Rattle.op_constants.proofs.TypesArranged.{all_at}
+use Rattle.op_core.proofs.Rows.{row_at}
 use Rattle.op_core.specs.Members.{InRun}
 use Rattle.op_core.specs.Rows.{rows}
 use Rattle.op_core.specs.declared.ids.Run.{Run}
-
-pub none_some : {A : Type 0} {x : A} → None ≡ Some x → ⊥
-none_some e = absurd (cc)
-
-pub some_is : {A : Type 0} {a b : A} → Some a ≡ Some b → a ≡ b
-some_is e = cc
 
 pub not_true : false ≡ true → ⊥
 not_true e = absurd (cc)
@@ -35,21 +30,6 @@ each_row P table n x all e = all_at P table n x (slice_get_within table n x e) e
 
 -- ---- rows that lie together
 
-dropped : {A : Type 0} (n k : ℕ) (xs : List A) → slice_get (drop n xs) k ≡ slice_get xs (n + k)
-dropped zero k xs = let e : k ≡ 0 + k = omega arith in ap (slice_get xs) e
-dropped (suc n) k [] = refl
-dropped (suc n) k (y ∷ ys) = let e : suc (n + k) ≡ suc n + k = omega arith in dropped n k ys ∙ ap (slice_get (y ∷ ys)) e
-
-taken : {A : Type 0} (n k : ℕ) (xs : List A) → k < n → slice_get (take n xs) k ≡ slice_get xs k
-taken zero k xs few = absurd (omega arith)
-taken (suc n) k [] few = refl
-taken (suc n) zero (y ∷ ys) few = refl
-taken (suc n) (suc k) (y ∷ ys) few = taken n k ys (omega arith)
-
--- the row with this number in a run
-pub row_at : {A : Type 0} (table : List A) (run : Run) (k : ℕ) → k < run.count → slice_get (rows table run) k ≡ slice_get table (run.first + k)
-row_at table run k few = taken run.count k (drop run.first table) few ∙ dropped run.first k table
-
 -- a row of a run, counted from its first one
 pub row_in : {A : Type 0} (table : List A) (run : Run) (n : ℕ) → InRun run n → (n - run.first < run.count) × (slice_get (rows table run) (n - run.first) ≡ slice_get table n) × (run.first + (n - run.first) ≡ n)
 row_in table run n h =
@@ -60,8 +40,8 @@ row_in table run n h =
     (few, row_at table run (n - run.first) few ∙ ap (slice_get table) same, same)
 
 taken_low : {A : Type 0} (n k : ℕ) (xs : List A) (x : A) → slice_get (take n xs) k ≡ Some x → k < n
-taken_low zero k xs x e = absurd (none_some e)
-taken_low (suc n) k [] x e = absurd (none_some e)
+taken_low zero k xs x e = absurd (none-some _ e)
+taken_low (suc n) k [] x e = absurd (none-some _ e)
 taken_low (suc n) zero (y ∷ ys) x e = omega arith
 taken_low (suc n) (suc k) (y ∷ ys) x e = let low = taken_low n k ys x e in omega (arith, low)
 

@@ -1,9 +1,10 @@
 -- Values are stored at places of their types.
 use Rattle.std.proofs.Common.{◌≡◌, inl, inr, ℕ, ◌+◌, Bool, true, false, List, [], ◌∷◌, ◌++◌, length, map, Option, Some, None, slice_get, refl, sym, ap, subst, ◌∙◌, arith}
-use Rattle.std.proofs.lemmas.Option.{slice_get-map}
+use Rattle.std.proofs.lemmas.Option.{none-some, same_Some, slice_get-map}
 use Rattle.std.specs.Option.{option_map}
 use Rattle.std.specs.Prelude.{ℤ, IsSomeAnd, IsTrue}
 use Rattle.op_constants.proofs.TypesArranged.{many_rows}
+use Rattle.op_core.proofs.Rows.{row_at}
 use Rattle.op_core.specs.Expression.{Expression, expression, Root, variable, Steps, no_steps, steps, bracket}
 use Rattle.op_core.specs.Rows.{rows}
 use Rattle.op_core.specs.Sizes.{range_of, type_at}
@@ -34,7 +35,7 @@ use Rattle.op_typing.proofs.Actions.{both}
 use Rattle.op_typing.proofs.Expressions.{is_text_at_end, text_end, variable_typed}
 use Rattle.op_typing.proofs.Founds.{FoundIs, env_at}
 use Rattle.op_typing.proofs.Paths.{has_rows, root_path, rows_of, temporary_path}
-use Rattle.op_typing.proofs.Rows.{each_row, none_some, not_true, of_some, row_at, row_low, some_is}
+use Rattle.op_typing.proofs.Rows.{each_row, not_true, of_some, row_low}
 use Rattle.op_typing.proofs.Types.{one_back_solid, one_shape, ordinal_single, set_single, solid_small}
 use Rattle.op_typing.specs.Simple.{IsSimpleProgram, IsSimpleRoutine, IsSolidType, is_solid, is_text}
 use Rattle.op_typing.specs.Typed.{AreTyped, HasVariable, IsComposite, IsSingle, IsTypedAction, OwnValue, PathTo}
@@ -152,8 +153,8 @@ result_at [] of others = refl
 result_at (p ∷ ps) of others = result_at ps of others
 
 pub mapped_is : {A B : Type 0} (f : A → B) (o : Option A) (b : B) → option_map f o ≡ Some b → (a : A) × (o ≡ Some a) × (f a ≡ b)
-mapped_is f None b e = absurd (none_some e)
-mapped_is f (Some a) b e = (a, refl, some_is e)
+mapped_is f None b e = absurd (none-some _ e)
+mapped_is f (Some a) b e = (a, refl, same_Some _ _ e)
 
 abbrev objects : Owner → ℕ
 objects OfUnit = 0

@@ -1,14 +1,13 @@
 -- Types of values without strings and references, and the numbers of ordinal types.
-use Rattle.std.proofs.Common.{◌≡◌, ◌<◌, ◌≤◌, ◌⊎◌, inl, inr, ℕ, Bool, true, false, ◌||◌, List, [], ◌∷◌, length, nat_eq, Option, Some, None, slice_get, refl, sym, ap, subst, ◌∙◌, arith}
-use Rattle.std.proofs.lemmas.Bool.{eqb-true}
+use Rattle.std.proofs.Common.{◌≡◌, ◌<◌, ◌≤◌, ◌⊎◌, inl, inr, ℕ, Bool, true, false, ◌||◌, List, [], ◌∷◌, length, nat_eq, Option, Some, None, slice_get, refl, sym, subst, ◌∙◌, arith}
 use Rattle.std.proofs.lemmas.Int.{ints}
-use Rattle.std.proofs.lemmas.Option.{slice_get_within}
+use Rattle.std.proofs.lemmas.Option.{none-some, same_Some, slice_get_within}
 use Rattle.std.specs.Int.{w32}
 use Rattle.std.specs.Int.RustNames.{FitsSigned}
 use Rattle.std.specs.Prelude.{ℤ, pos, ◌-ℤ◌, IsTrue, IsSomeAnd}
 use Rattle.op_constants.proofs.SoundFirst.{small_type}
 use Rattle.op_constants.specs.Arranged.{IsSmall}
-use Rattle.op_core.proofs.OneType.{one_back}
+use Rattle.op_core.proofs.OneType.{by_number, one_back}
 use Rattle.op_core.specs.Sizes.{integer_range, range_of, type_at}
 use Rattle.op_core.specs.Sound.{IsSound, is_whole}
 use Rattle.op_core.specs.Types.{are_one, elements, true_of}
@@ -23,7 +22,7 @@ use Rattle.op_meaning.specs.Expressions.{high_in, high_of, low_in, low_of}
 use Rattle.op_meaning.specs.Numbers.{fits_word}
 use Rattle.op_meaning.specs.Sets.{set_of}
 use Rattle.op_meaning.specs.Shapes.{Shape, single, composite, shape_by}
-use Rattle.op_typing.proofs.Rows.{none_some, not_true, some_and, some_is}
+use Rattle.op_typing.proofs.Rows.{not_true, some_and}
 use Rattle.op_typing.specs.Simple.{IsSolidType, is_solid}
 use Rattle.op_typing.specs.Typed.{IsSingle, IsSolid}
 
@@ -80,9 +79,6 @@ or_none : (a : Bool) (f : TypeId → TypeId → Bool) (pair : Option (TypeId × 
 or_none true f pair e h = refl
 or_none false f pair e h = absurd (not_true (subst (λ pair. true_of f pair ≡ true) e h))
 
-by_number : (a b : TypeId) → nat_eq a.0 b.0 ≡ true → a ≡ b
-by_number a b e = ap (λ n. record { 0 = n }) (eqb-true a.0 b.0 e)
-
 steps_one : (steps types : List CoreType) (a b : TypeId) → is_solid (slice_get types a.0) ≡ true → are_one steps types a b ≡ true → a ≡ b
 steps_one [] types a b solid h = by_number a b h
 steps_one (step ∷ steps) types a b solid h =
@@ -126,7 +122,7 @@ few_ends : (count : ℕ) → count ≤ 65536 → AreWordEnds (pos 0, pos count -
 few_ends count few = (omega (arith, ints), omega (arith, ints, few))
 
 ends_at : {a b : ℤ × ℤ} → Some a ≡ Some b → AreWordEnds a → AreWordEnds b
-ends_at e h = subst AreWordEnds (some_is e) h
+ends_at e h = subst AreWordEnds (same_Some _ _ e) h
 
 whole_ends : (o : Option CoreType) (range : ℤ × ℤ) → IsTrue (is_whole o) → ((count : ℕ) → o ≡ Some (Enumeration count) → count ≤ 65536) → range_of o ≡ Some range → AreWordEnds range
 whole_ends (Some (Integer Signed32)) range whole few e = ends_at e (kind_ends Signed32)
@@ -164,14 +160,14 @@ module _ (core : Core) (sound : IsSound core) where
   type_ends of (Subrange base low high) range is e =
       let row = sound.types of.0 (Subrange base low high) is in
       ends_at e (sub_ends (type_at core base) low high row.3 (few_values base) row.1)
-  type_ends of _ range is e = absurd (none_some e)
+  type_ends of _ range is e = absurd (none-some _ e)
 
   -- the bounds of an ordinal type have 32 bits
   pub range_words : (of : TypeId) (range : ℤ × ℤ) → range_of (type_at core of) ≡ Some range → AreWordEnds range
   range_words of range e = by (type_at core of) refl e
     where
       by : (o : Option CoreType) → type_at core of ≡ o → range_of o ≡ Some range → AreWordEnds range
-      by None is e = absurd (none_some e)
+      by None is e = absurd (none-some _ e)
       by (Some t) is e = type_ends of t range is e
 
   pub value_word : (of : TypeId) (n : ℤ) → IsSomeAnd (range_of (type_at core of)) (λ range. Within range n) → IsWord n

@@ -3,12 +3,13 @@
 -- are asked for, and it is written. (Free Pascal Reference Guide, "Types" and "Expressions".)
 use Rattle.std.specs.Prelude.{◌≡◌, ◌<◌, ◌^◌, Bool, true, false, List, Option, Some, None, IfSome}
 use Rattle.std.specs.List.{All}
-use Rattle.op_core.specs.Expression.{Expression, expression, Root, constant, call, construct, set, Steps, no_steps, steps, Action, bracket, index, method, operate, apply, Elements, no_elements, elements, Element, one, range, Arguments, no_arguments, arguments, Argument, value, place, array, listed}
+use Rattle.op_core.specs.Expression.{Expression, expression, Root, constant, variable, object, call, construct, set, eof, eoln, Steps, no_steps, steps, Action, convert, bracket, field, index, method, prefixed, operate, is, apply, copy, Elements, no_elements, elements, Element, one, range, Arguments, no_arguments, arguments, Argument, value, place, array, listed}
 use Rattle.op_core.specs.Members.{There}
 use Rattle.op_core.specs.Sizes.{type_at, range_of, values_of}
 use Rattle.op_core.specs.Sound.{Each}
-use Rattle.op_core.specs.Statement.{Item, plain, padded, BuiltIn, write, count, include, exclude, free, destroy, Statement, block, if_then, if_else, case_of, while_do, repeat_until, for_to, for_in, try_finally, raise, call as call_statement, assign, exit_with, halt, built_in, Statements, no_statements, statements, Branches, no_branches, branches, stmts_of}
-use Rattle.op_core.specs.declared.constant.Const.TheVariants.{Text}
+use Rattle.op_core.specs.Statement.{Item, plain, padded, BuiltIn, write, read, count, set_length, include, exclude, val, str, free, destroy, Statement, empty, block, if_then, if_else, case_of, while_do, repeat_until, for_to, for_in, try_finally, try_on, try_on_else, raise, reraise, call as call_statement, assign, exit, exit_with, break, continue, halt, built_in, Statements, no_statements, statements, Branches, no_branches, branches, stmts_of}
+use Rattle.op_core.specs.declared.constant.Const.{Const}
+use Rattle.op_core.specs.declared.constant.Const.TheVariants.{Ordinal, Text, Set as SetOf, Nil as NilOf}
 use Rattle.op_core.specs.declared.ids.RoutineId.{RoutineId}
 use Rattle.op_core.specs.declared.ids.TypeId.{TypeId}
 use Rattle.op_core.specs.declared.operation.Function.{Function}
@@ -57,31 +58,52 @@ asks_text Low = true
 asks_text High = true
 asks_text _ = false
 
+abbrev pub IsSimpleConstant : Core → Const → TypeId → Type 0
+IsSimpleConstant core (Ordinal n) of = IsSolidType core of
+IsSimpleConstant core (Text bytes) of = IsShortText bytes
+IsSimpleConstant core (SetOf members) of = IsSolidType core of
+IsSimpleConstant core NilOf of = IsSolidType core of
+
 -- The type of each part that comes out is solid, but of a text that is written there.
 abbrev mutual
   pub IsSimple : Core → Expression → Type 0
   IsSimple core (expression root of others) = IsSimpleRoot core root of × AreSimpleSteps core (is_text root) others
 
   pub IsSimpleRoot : Core → Root → TypeId → Type 0
-  IsSimpleRoot core (constant (Text bytes) nodes words) of = IsShortText bytes
+  IsSimpleRoot core (constant v nodes words) of = IsSimpleConstant core v of
+  IsSimpleRoot core (variable id) of = IsSolidType core of
+  IsSimpleRoot core (object id) of = IsSolidType core of
   IsSimpleRoot core (call id given) of = IsSolidType core of × AreSimpleArguments core given
   IsSimpleRoot core (construct c id given) of = ⊥
   IsSimpleRoot core (set es) of = IsSolidType core of × AreSimpleElements core es
-  IsSimpleRoot core _ of = IsSolidType core of
+  IsSimpleRoot core eof of = IsSolidType core of
+  IsSimpleRoot core eoln of = IsSolidType core of
 
   pub AreSimpleSteps : Core → Bool → Steps → Type 0
   AreSimpleSteps core text no_steps = Unit {0}
   AreSimpleSteps core text (steps action next others) = IsSimpleStep core text action next × AreSimpleSteps core (text_after text action) others
 
   pub IsSimpleStep : Core → Bool → Action → TypeId → Type 0
+  IsSimpleStep core true (convert conversion origin) next = ⊥
   IsSimpleStep core true bracket next = Unit {0}
+  IsSimpleStep core true (field id) next = ⊥
   IsSimpleStep core true (index e) next = IsSimple core e × IsSolidType core next
+  IsSimpleStep core true (method id dispatch given) next = ⊥
+  IsSimpleStep core true (prefixed operator checked) next = ⊥
+  IsSimpleStep core true (operate operator checked e) next = ⊥
+  IsSimpleStep core true (is class) next = ⊥
   IsSimpleStep core true (apply function checked) next = (asks_text function ≡ true) × IsSolidType core next
-  IsSimpleStep core true _ next = ⊥
+  IsSimpleStep core true (copy e e') next = ⊥
+  IsSimpleStep core false (convert conversion origin) next = IsSolidType core next
+  IsSimpleStep core false bracket next = IsSolidType core next
+  IsSimpleStep core false (field id) next = IsSolidType core next
   IsSimpleStep core false (index e) next = IsSimple core e × IsSolidType core next
-  IsSimpleStep core false (operate operator checked e) next = IsSimple core e × IsSolidType core next
   IsSimpleStep core false (method id dispatch given) next = ⊥
-  IsSimpleStep core false _ next = IsSolidType core next
+  IsSimpleStep core false (prefixed operator checked) next = IsSolidType core next
+  IsSimpleStep core false (operate operator checked e) next = IsSimple core e × IsSolidType core next
+  IsSimpleStep core false (is class) next = IsSolidType core next
+  IsSimpleStep core false (apply function checked) next = IsSolidType core next
+  IsSimpleStep core false (copy e e') next = IsSolidType core next
 
   pub AreSimpleElements : Core → Elements → Type 0
   AreSimpleElements core no_elements = Unit {0}
@@ -112,15 +134,19 @@ AreSimpleItems core items = All (IsSimpleItem core) items
 
 abbrev pub IsSimpleBuiltIn : Core → BuiltIn → Type 0
 IsSimpleBuiltIn core (write items ends_line) = AreSimpleItems core items
+IsSimpleBuiltIn core (read targets ends_line) = Unit {0}
 IsSimpleBuiltIn core (count direction target amount checked) = IsSimple core target.place × IsSimple core amount
+IsSimpleBuiltIn core (set_length target size) = Unit {0}
 IsSimpleBuiltIn core (include s e) = IsSimple core s × IsSimple core e
 IsSimpleBuiltIn core (exclude s e) = IsSimple core s × IsSimple core e
-IsSimpleBuiltIn core (free object empties) = IsSimple core object
-IsSimpleBuiltIn core (destroy object) = IsSimple core object
-IsSimpleBuiltIn core _ = Unit {0}
+IsSimpleBuiltIn core (val e target code) = Unit {0}
+IsSimpleBuiltIn core (str item target) = Unit {0}
+IsSimpleBuiltIn core (free e empties) = IsSimple core e
+IsSimpleBuiltIn core (destroy e) = IsSimple core e
 
 abbrev mutual
   pub IsSimpleStatement : Core → Statement → Type 0
+  IsSimpleStatement core empty = Unit {0}
   IsSimpleStatement core (block ss) = AreSimpleStatements core ss
   IsSimpleStatement core (if_then e s) = IsSimple core e × IsSimpleStatement core s
   IsSimpleStatement core (if_else e s t) = IsSimple core e × IsSimpleStatement core s × IsSimpleStatement core t
@@ -130,13 +156,18 @@ abbrev mutual
   IsSimpleStatement core (for_to id e direction f s) = IsSimple core e × IsSimple core f × IsSimpleStatement core s
   IsSimpleStatement core (for_in id store e s) = IsSimple core e × IsSimpleStatement core s
   IsSimpleStatement core (try_finally ss ts) = AreSimpleStatements core ss × AreSimpleStatements core ts
+  IsSimpleStatement core (try_on ss hs) = Unit {0}
+  IsSimpleStatement core (try_on_else ss hs ts) = Unit {0}
   IsSimpleStatement core (raise e) = IsSimple core e
+  IsSimpleStatement core reraise = Unit {0}
   IsSimpleStatement core (call_statement e) = IsSimple core e
   IsSimpleStatement core (assign target e) = IsSimple core target × IsSimple core e
+  IsSimpleStatement core exit = Unit {0}
   IsSimpleStatement core (exit_with e) = IsSimple core e
+  IsSimpleStatement core break = Unit {0}
+  IsSimpleStatement core continue = Unit {0}
   IsSimpleStatement core (halt e) = IsSimple core e
   IsSimpleStatement core (built_in action) = IsSimpleBuiltIn core action
-  IsSimpleStatement core _ = Unit {0}
 
   pub AreSimpleStatements : Core → Statements → Type 0
   AreSimpleStatements core no_statements = Unit {0}

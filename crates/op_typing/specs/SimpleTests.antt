@@ -1,10 +1,11 @@
 -- A test of whether a program is without strings, dynamic and open arrays, classes and interfaces.
 use Rattle.std.specs.Prelude.{◌≡◌, ◌^◌, ℕ, Bool, true, false, not, ◌&&◌, ◌||◌, List, Option, Some, None, length, nat_lt, slice_get}
 use Rattle.std.specs.List.{list_all}
-use Rattle.op_core.specs.Expression.{Expression, expression, Root, constant, call, construct, set, Steps, no_steps, steps, Action, bracket, index, method, operate, apply, Elements, no_elements, elements, Element, one, range, Arguments, no_arguments, arguments, Argument, value, place, array, listed}
+use Rattle.op_core.specs.Expression.{Expression, expression, Root, constant, variable, object, call, construct, set, eof, eoln, Steps, no_steps, steps, Action, convert, bracket, field, index, method, prefixed, operate, is, apply, copy, Elements, no_elements, elements, Element, one, range, Arguments, no_arguments, arguments, Argument, value, place, array, listed}
 use Rattle.op_core.specs.Sizes.{type_at, range_of, values_of}
-use Rattle.op_core.specs.Statement.{Item, plain, padded, BuiltIn, write, count, include, exclude, free, destroy, Statement, block, if_then, if_else, case_of, while_do, repeat_until, for_to, for_in, try_finally, raise, call as call_statement, assign, exit_with, halt, built_in, Statements, no_statements, statements, Branches, no_branches, branches, stmts_of}
-use Rattle.op_core.specs.declared.constant.Const.TheVariants.{Text}
+use Rattle.op_core.specs.Statement.{Item, plain, padded, BuiltIn, write, read, count, set_length, include, exclude, val, str, free, destroy, Statement, empty, block, if_then, if_else, case_of, while_do, repeat_until, for_to, for_in, try_finally, try_on, try_on_else, raise, reraise, call as call_statement, assign, exit, exit_with, break, continue, halt, built_in, Statements, no_statements, statements, Branches, no_branches, branches, stmts_of}
+use Rattle.op_core.specs.declared.constant.Const.{Const}
+use Rattle.op_core.specs.declared.constant.Const.TheVariants.{Ordinal, Text, Set, Nil}
 use Rattle.op_core.specs.declared.ids.RoutineId.{RoutineId}
 use Rattle.op_core.specs.declared.ids.TypeId.{TypeId}
 use Rattle.op_core.specs.declared.program.Core.{Core}
@@ -32,30 +33,51 @@ is_solid_type core of = is_solid (type_at core of)
 
 -- ---- expressions
 
+abbrev pub is_simple_constant : Core → Const → TypeId → Bool
+is_simple_constant core (Ordinal n) of = is_solid_type core of
+is_simple_constant core (Text bytes) of = is_short_text bytes
+is_simple_constant core (Set members) of = is_solid_type core of
+is_simple_constant core Nil of = is_solid_type core of
+
 abbrev mutual
   pub is_simple : Core → Expression → Bool
   is_simple core (expression root of others) = is_simple_root core root of && are_simple_steps core (is_text root) others
 
   pub is_simple_root : Core → Root → TypeId → Bool
-  is_simple_root core (constant (Text bytes) nodes words) of = is_short_text bytes
+  is_simple_root core (constant v nodes words) of = is_simple_constant core v of
+  is_simple_root core (variable id) of = is_solid_type core of
+  is_simple_root core (object id) of = is_solid_type core of
   is_simple_root core (call id given) of = is_solid_type core of && are_simple_arguments core given
   is_simple_root core (construct c id given) of = false
   is_simple_root core (set es) of = is_solid_type core of && are_simple_elements core es
-  is_simple_root core _ of = is_solid_type core of
+  is_simple_root core eof of = is_solid_type core of
+  is_simple_root core eoln of = is_solid_type core of
 
   pub are_simple_steps : Core → Bool → Steps → Bool
   are_simple_steps core text no_steps = true
   are_simple_steps core text (steps action next others) = is_simple_step core text action next && are_simple_steps core (text_after text action) others
 
   pub is_simple_step : Core → Bool → Action → TypeId → Bool
+  is_simple_step core true (convert conversion origin) next = false
   is_simple_step core true bracket next = true
+  is_simple_step core true (field id) next = false
   is_simple_step core true (index e) next = is_simple core e && is_solid_type core next
+  is_simple_step core true (method id dispatch given) next = false
+  is_simple_step core true (prefixed operator checked) next = false
+  is_simple_step core true (operate operator checked e) next = false
+  is_simple_step core true (is class) next = false
   is_simple_step core true (apply function checked) next = asks_text function && is_solid_type core next
-  is_simple_step core true _ next = false
+  is_simple_step core true (copy e e') next = false
+  is_simple_step core false (convert conversion origin) next = is_solid_type core next
+  is_simple_step core false bracket next = is_solid_type core next
+  is_simple_step core false (field id) next = is_solid_type core next
   is_simple_step core false (index e) next = is_simple core e && is_solid_type core next
-  is_simple_step core false (operate operator checked e) next = is_simple core e && is_solid_type core next
   is_simple_step core false (method id dispatch given) next = false
-  is_simple_step core false _ next = is_solid_type core next
+  is_simple_step core false (prefixed operator checked) next = is_solid_type core next
+  is_simple_step core false (operate operator checked e) next = is_simple core e && is_solid_type core next
+  is_simple_step core false (is class) next = is_solid_type core next
+  is_simple_step core false (apply function checked) next = is_solid_type core next
+  is_simple_step core false (copy e e') next = is_solid_type core next
 
   pub are_simple_elements : Core → Elements → Bool
   are_simple_elements core no_elements = true
@@ -83,15 +105,19 @@ is_simple_item core (padded e width) = is_simple core e && is_simple core width
 
 abbrev pub is_simple_built_in : Core → BuiltIn → Bool
 is_simple_built_in core (write items ends_line) = list_all (is_simple_item core) items
+is_simple_built_in core (read targets ends_line) = true
 is_simple_built_in core (count direction target amount checked) = is_simple core target.place && is_simple core amount
+is_simple_built_in core (set_length target size) = true
 is_simple_built_in core (include s e) = is_simple core s && is_simple core e
 is_simple_built_in core (exclude s e) = is_simple core s && is_simple core e
-is_simple_built_in core (free object empties) = is_simple core object
-is_simple_built_in core (destroy object) = is_simple core object
-is_simple_built_in core _ = true
+is_simple_built_in core (val e target code) = true
+is_simple_built_in core (str item target) = true
+is_simple_built_in core (free e empties) = is_simple core e
+is_simple_built_in core (destroy e) = is_simple core e
 
 abbrev mutual
   pub is_simple_statement : Core → Statement → Bool
+  is_simple_statement core empty = true
   is_simple_statement core (block ss) = are_simple_statements core ss
   is_simple_statement core (if_then e s) = is_simple core e && is_simple_statement core s
   is_simple_statement core (if_else e s t) = is_simple core e && (is_simple_statement core s && is_simple_statement core t)
@@ -101,13 +127,18 @@ abbrev mutual
   is_simple_statement core (for_to id e direction f s) = is_simple core e && (is_simple core f && is_simple_statement core s)
   is_simple_statement core (for_in id store e s) = is_simple core e && is_simple_statement core s
   is_simple_statement core (try_finally ss ts) = are_simple_statements core ss && are_simple_statements core ts
+  is_simple_statement core (try_on ss hs) = true
+  is_simple_statement core (try_on_else ss hs ts) = true
   is_simple_statement core (raise e) = is_simple core e
+  is_simple_statement core reraise = true
   is_simple_statement core (call_statement e) = is_simple core e
   is_simple_statement core (assign target e) = is_simple core target && is_simple core e
+  is_simple_statement core exit = true
   is_simple_statement core (exit_with e) = is_simple core e
+  is_simple_statement core break = true
+  is_simple_statement core continue = true
   is_simple_statement core (halt e) = is_simple core e
   is_simple_statement core (built_in action) = is_simple_built_in core action
-  is_simple_statement core _ = true
 
   pub are_simple_statements : Core → Statements → Bool
   are_simple_statements core no_statements = true

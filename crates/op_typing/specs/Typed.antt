@@ -19,12 +19,12 @@ use Rattle.op_core.specs.declared.routine.Routine.{Routine}
 use Rattle.op_core.specs.declared.routine.Variable.{Variable}
 use Rattle.op_core.specs.declared.statement.Label.{Label}
 use Rattle.op_core.specs.declared.types.IntegerKind.{IntegerKind}
-use Rattle.op_meaning.specs.Actions.{Action, constant, load, store, copy, look, begin_with, pick, check, neighbour, write_text}
-use Rattle.op_meaning.specs.Items.{Given, by_value, by_reference, by_place, by_copy, Receiver, nowhere, to_temp, to_place, Item, act, also, choose, select, loop, body_first, protect, leave, enter, Items, none, then_do, Turns, turns, Cases, no_cases, cases}
+use Rattle.op_meaning.specs.Actions.{Action, constant, load, store, copy, look, begin_with, pick, arithmetic, compare, negate, complement, invert, absolute, odd, upper, low_bits, check, neighbour, single, span, combine, contains, check_set, write_number, write_truth, write_char, write_text}
+use Rattle.op_meaning.specs.Items.{Given, by_value, by_reference, by_place, by_copy, Receiver, nowhere, to_temp, to_place, Item, act, also, choose, select, loop, body_first, protect, leave, enter, finish, attempt, throw, rethrow, halt, construct, free, Items, none, then_do, Turns, turns, Cases, no_cases, cases}
 use Rattle.op_meaning.specs.Numbers.{fits_word}
 use Rattle.op_meaning.specs.Paths.{Root, in_global, in_local, through, in_temporary, Path, path_to}
 use Rattle.op_meaning.specs.Shapes.{single, composite, shape_of, is_reference, variables_of}
-use Rattle.op_mir.specs.Code.{Instr, do_act, do_call, switch}
+use Rattle.op_mir.specs.Code.{Instr, do_act, do_call, jump, when, unless, switch, dispatch, make_due, stop, ret}
 
 -- ---- types
 
@@ -91,10 +91,26 @@ IsTypedAction core r (copy of to from) = PathTo core r to of × PathTo core r fr
 IsTypedAction core r (look at) = (of : TypeId) × PathTo core r at of
 IsTypedAction core r (begin_with v of value) = HasVariable core r v (OwnValue of) × IsSmall core of × IsSolid core of × FirstFits core of value
 IsTypedAction core r (pick to text index) = IsShortText text
+IsTypedAction core r (arithmetic o checked to a b) = Unit {0}
+IsTypedAction core r (compare o to a b) = Unit {0}
+IsTypedAction core r (negate checked to a) = Unit {0}
+IsTypedAction core r (complement to a) = Unit {0}
+IsTypedAction core r (invert to a) = Unit {0}
+IsTypedAction core r (absolute checked to a) = Unit {0}
+IsTypedAction core r (odd to a) = Unit {0}
+IsTypedAction core r (upper to a) = Unit {0}
+IsTypedAction core r (low_bits kind to a) = Unit {0}
 IsTypedAction core r (check low high to from) = (fits_word low ≡ true) × (fits_word high ≡ true)
 IsTypedAction core r (neighbour distance low high to from) = FitsSigned w32 distance × (fits_word low ≡ true) × (fits_word high ≡ true)
+IsTypedAction core r (single to a) = Unit {0}
+IsTypedAction core r (span to a b) = Unit {0}
+IsTypedAction core r (combine o to a b) = Unit {0}
+IsTypedAction core r (contains to a b) = Unit {0}
+IsTypedAction core r (check_set all to a) = Unit {0}
+IsTypedAction core r (write_number from width) = Unit {0}
+IsTypedAction core r (write_truth from width) = Unit {0}
+IsTypedAction core r (write_char from width) = Unit {0}
 IsTypedAction core r (write_text text width) = IsShortText text
-IsTypedAction core r _ = Unit {0}
 
 -- ---- calls
 
@@ -146,7 +162,13 @@ abbrev mutual
   IsTypedItem core r (protect t keep items finalization) = AreTyped core r items × AreTyped core r finalization
   IsTypedItem core r (leave what) = what < 3
   IsTypedItem core r (enter q given receiver) = IsTypedCall core r q given receiver
-  IsTypedItem core r _ = Unit {0}
+  IsTypedItem core r (finish keep) = Unit {0}
+  IsTypedItem core r (attempt keep items cs) = Unit {0}
+  IsTypedItem core r (throw t) = Unit {0}
+  IsTypedItem core r rethrow = Unit {0}
+  IsTypedItem core r (halt t) = Unit {0}
+  IsTypedItem core r (construct c q given to) = Unit {0}
+  IsTypedItem core r (free takes_nil t) = Unit {0}
 
   pub AreTypedTurns : Core → ℕ → Turns → Type 0
   AreTypedTurns core r (turns head t ends between body) = AreTyped core r head × AreTyped core r between × AreTyped core r body
@@ -160,8 +182,14 @@ abbrev mutual
 abbrev pub IsTypedInstr : Core → ℕ → Instr → Type 0
 IsTypedInstr core r (do_act a landing) = IsTypedAction core r a
 IsTypedInstr core r (do_call q given receiver landing) = IsTypedCall core r q given receiver
+IsTypedInstr core r (jump k) = Unit {0}
+IsTypedInstr core r (when t k) = Unit {0}
+IsTypedInstr core r (unless t k) = Unit {0}
 IsTypedInstr core r (switch t arms) = All (λ a. AreWords a.labels) arms
-IsTypedInstr core r _ = Unit {0}
+IsTypedInstr core r (dispatch t k) = Unit {0}
+IsTypedInstr core r (make_due f) = Unit {0}
+IsTypedInstr core r (stop t) = Unit {0}
+IsTypedInstr core r ret = Unit {0}
 
 -- of a block, and of all blocks of a routine
 abbrev pub AreTypedInstrs : Core → ℕ → List Instr → Type 0

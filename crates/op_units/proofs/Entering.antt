@@ -1,6 +1,7 @@
 -- What comes of a name in a uses list, and of the file that is read for it.
-use Rattle.std.proofs.Common.{◌≡◌, ℕ, zero, suc, ◌<◌, ◌≤◌, Bool, true, false, ◌||◌, List, [], ◌∷◌, ◌++◌, length, map, take, get_or, Option, Some, None, Result, Ok, Err, refl, sym, ap, subst, ◌∙◌, inl, inr, arith, IfSome, IsSome, is_some}
+use Rattle.std.proofs.Common.{◌≡◌, ℕ, zero, suc, ◌<◌, ◌≤◌, Bool, false, List, [], ◌∷◌, ◌++◌, length, map, take, get_or, Option, Some, None, Result, Ok, Err, refl, sym, ap, subst, ◌∙◌, inl, inr, arith, IfSome, IsSome, is_some}
 use Rattle.std.specs.Prelude.{IsSomeAnd}
+use Rattle.std.proofs.lemmas.Bool.{or_from}
 use Rattle.std.specs.Result.{IsErrAnd}
 use Rattle.op_base.specs.FileAnswer.{Answers, file_named}
 use Rattle.op_base.specs.declared.files.FileAnswer.{FileAnswer}
@@ -87,12 +88,8 @@ use_refused stored folder file used w new before after refusal name (errors.Refu
 use_refused stored folder file used w new before after refusal name errors.ReadFault b r = absurd r
 use_refused stored folder file used w new before after refusal name errors.NoMemory b r = r
 
-neither : (a b : Bool) → a ≡ false → b ≡ false → (a || b) ≡ false
-neither true b e f = absurd cc
-neither false b e f = f
-
 pub is_new : (w : Walked) (name : List ℕ) → is_known w name ≡ false → is_system name ≡ false → is_sysutils name ≡ false → IsNew w name
-is_new w name k s t = record { unknown = k; outside = neither (is_system name) (is_sysutils name) s t }
+is_new w name k s t = record { unknown = k; outside = or_from (is_system name) (is_sysutils name) s t }
 
 pub is_new_by : (w : Walked) (name now : List ℕ) (a b d : Bool) → now ≡ name → a ≡ is_known w now → a ≡ false → b ≡ is_system now → b ≡ false → d ≡ is_sysutils now → d ≡ false → IsNew w name
 is_new_by w name now a b d same e x f y g z = subst (λ n. IsNew w n) same (is_new w now (sym e ∙ x) (sym f ∙ y) (sym g ∙ z))

@@ -1,6 +1,9 @@
 pub mod Entering
+pub mod Forms
 pub mod Loading
 pub mod Names
+pub mod OneText
+pub mod OneWalk
 pub mod Reaching
 pub mod Searching
 pub mod Told

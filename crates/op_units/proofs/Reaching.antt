@@ -1,7 +1,7 @@
 -- The search along interface uses.
 use Rattle.std.proofs.Common.{◌≡◌, ℕ, zero, suc, ◌+◌, ◌<◌, ◌≤◌, Bool, true, false, List, [], ◌∷◌, ◌++◌, length, slice_get, take, drop, get_or, Some, None, if◌then◌else◌, refl, sym, ap, subst, ◌∙◌, ◌⊎◌, inl, inr, arith}
 use Rattle.std.proofs.lemmas.Bool.{cases_lt, false≢true}
-use Rattle.std.proofs.lemmas.Option.{slice_get_cases, slice_get_within}
+use Rattle.std.proofs.lemmas.Option.{none-some, slice_get_cases, slice_get_within}
 use Rattle.op_units.specs.Names.{is_among}
 use Rattle.op_units.specs.Cycles.{ClosedAt, ClosesAt, Reached, with_name, with_names}
 use Rattle.op_units.specs.Walk.{AreOpen, IsOpen, Lead, is_there, goes_on, Walked, interface_of}
@@ -104,9 +104,6 @@ module _ (units : List (List ℕ)) (interfaces : List (List (List ℕ))) where
     sound = λ k a w h. begins_sound old start (is_among start old) k a w (subst (λ xs. slice_get xs k ≡ Some a) e h);
   }
 
-  not_both : {A : Type 0} {x : A} → None ≡ Some x → ⊥
-  not_both e = cc
-
   -- the next name was not read, so it uses nothing
   pub reaching_skips : (old : List (List ℕ)) (start : List ℕ) (seen : List (List ℕ)) (number : ℕ) (name : List ℕ) → Reaching old start seen number → slice_get seen number ≡ Some name → interface_of units interfaces name ≡ None → Reaching old start seen (number + 1)
   reaching_skips old start seen number name h s i = record {
@@ -122,7 +119,7 @@ module _ (units : List (List ℕ)) (interfaces : List (List (List ℕ))) where
       closed_at : (k : ℕ) → length old ≤ k → k < number + 1 → ClosedAt units interfaces seen k
       closed_at k w v = elim (below_or k number) [
         | inl e ↦ h.front k w e
-        | inr e ↦ λ a b names t j u. absurd (not_both (sym i ∙ ap (λ x. interface_of units interfaces x) (same_some (sym s ∙ ap (λ n. slice_get seen n) (sym (last k v e)) ∙ t)) ∙ j))
+        | inr e ↦ λ a b names t j u. absurd (none-some _ (sym i ∙ ap (λ x. interface_of units interfaces x) (same_some (sym s ∙ ap (λ n. slice_get seen n) (sym (last k v e)) ∙ t)) ∙ j))
       ]
 
   -- the names that it uses are added
@@ -166,7 +163,7 @@ module _ (units : List (List ℕ)) (interfaces : List (List (List ℕ))) where
   reached old start seen number h s = by_growth h.grown
     where
       past : length seen ≤ number
-      past = elim (slice_get_cases seen number).1 [ inl f ↦ absurd (not_both (sym s ∙ f.2)) | inr f ↦ f.0 ]
+      past = elim (slice_get_cases seen number).1 [ inl f ↦ absurd (none-some _ (sym s ∙ f.2)) | inr f ↦ f.0 ]
 
       sound_of : (name : List ℕ) → Grows old seen → is_among name seen ≡ true → (is_among name old ≡ true) ⊎ Lead units interfaces start name
       sound_of name g t = let r = number_among name seen t in

@@ -6,12 +6,13 @@ use Rattle.op_base.specs.declared.files.NamedFile.{NamedFile}
 use Rattle.op_base.specs.declared.place.Place.{Place}
 use Rattle.op_base.specs.declared.rule.Refusal.{Refusal}
 use Rattle.op_core.specs.Faults.{comes_before}
-use Rattle.op_parse_code.proofs.Told.{told_refusal}
+use Rattle.op_parse_decl.proofs.Told.{told_refusal}
 use Rattle.op_scan.proofs.Told.{told_scans}
 use Rattle.op_base.specs.Rule.{HasText}
 use Rattle.op_scan.specs.declared.token.Tokens.{Tokens}
 use Rattle.op_tree.specs.Terminal.{Terminal}
-use Rattle.op_units.specs.Reading.{Breaks, IsShown, by_grammar, by_spelling, by_tokens, by_word, first_of}
+use Rattle.op_units.specs.Forms.{ShownForm, is_fraction_width, is_slash}
+use Rattle.op_units.specs.Reading.{Breaks, IsShown, by_form, by_grammar, by_spelling, by_tokens, by_word, first_of}
 use Rattle.op_units.specs.Unbuilt.{FirstUnbuilt, IsFirstUnbuilt, Unbuilt, is_string, named}
 use Rattle.op_units.specs.Walk.{Ends, FileBreaks, RefusalHasText, Stops, UseBreaks, Visits, Walked, Walks, breaks, breaks_within, by_name, by_text, by_uses, goes, is_cycle, is_done, is_missing, is_too_large, is_too_many, is_unbuilt, main_breaks, main_is_missing, main_is_too_large, passes, refused, visits, walked}
 use Rattle.op_units.specs.declared.error.LoadError.{LoadError}
@@ -42,6 +43,11 @@ told_named feature (t ∷ ts) refusal is h = subst IsTold (same_Some _ refusal i
 told_first_unbuilt : {ks : List Terminal} {refusal : Refusal} → IsFirstUnbuilt ks refusal → IsTold refusal
 told_first_unbuilt {refusal = refusal} first = told_named first.feature first.told refusal first.names (told_unbuilt first.is_there.unbuilt)
 
+told_form : {feature : ℕ} {ks q : List Terminal} → ShownForm feature ks q → HasText (record { number = 13; feature = feature })
+unfolding text_of_feature text_of_rule
+told_form is_slash = refl
+told_form (is_fraction_width h) = refl
+
 -- ---- the text of a file
 
 either : (test : Bool) (x y : Refusal) → IsTold x → IsTold y → IsTold (if test then x else y)
@@ -55,6 +61,7 @@ told_first ks grammar (Some word) h first = either (comes_before word grammar) w
 told_shown : {tokens : Tokens} {refusal : Refusal} → IsShown tokens refusal → IsTold refusal
 told_shown (by_grammar grammar word refuses first is) = subst IsTold (sym is) (told_first _ grammar word (told_refusal refuses) first)
 told_shown (by_word file spells first) = told_first_unbuilt first
+told_shown (by_form file spells built form) = told_named form.feature form.told _ form.names (told_form form.is_there.3)
 
 told_text : {number : ℕ} {bytes : List ℕ} {refusal : Refusal} → Breaks number bytes refusal → IsTold refusal
 told_text (by_spelling scans) = told_scans scans
@@ -70,7 +77,7 @@ told_file (by_uses t place reads named again is) = subst IsTold (sym is) refl
 
 told_use : {stored : Option (List NamedFile)} {folder : List ℕ} {w : Walked} {file : List ℕ} {used : Use} {refusal : Refusal} {name : List ℕ} → UseBreaks stored folder w file used refusal name → IsTold refusal
 unfolding text_of_feature text_of_rule
-told_use (is_unbuilt is) = refl
+told_use (is_unbuilt new is) = refl
 told_use (is_missing new missing) = refl
 told_use (is_too_many new there many) = refl
 told_use (is_too_large new fits large) = refl

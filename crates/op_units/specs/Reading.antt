@@ -12,6 +12,7 @@ use Rattle.op_tree.specs.File.{File, file_of}
 use Rattle.op_tree.specs.FileGrammar.{Spells}
 use Rattle.op_tree.specs.Terminal.{terminals}
 use Rattle.op_tree.specs.declared.file.Tree.{Tree}
+use Rattle.op_units.specs.Forms.{HasNoForm, IsOfForm}
 use Rattle.op_units.specs.Unbuilt.{FirstUnbuilt, IsBuilt, IsFirstUnbuilt}
 
 -- ---- tokens
@@ -25,17 +26,25 @@ abbrev pub first_of : Refusal → Option Refusal → Refusal
 first_of grammar None = grammar
 first_of grammar (Some word) = if comes_before word grammar then word else grammar
 
--- The first refusal of the tokens, by the grammar or by a word that shows what is not built.
+-- the same of what the parser answers
+abbrev pub first_told : ParseError → Option Refusal → ParseError
+first_told (parsed.Refused grammar) word = parsed.Refused (first_of grammar word)
+first_told parsed.NoMemory word = parsed.NoMemory
+
+-- The first refusal of the tokens, by the grammar or by a word that shows what is not built. Where a tree spells them and no word does, it is that of a
+-- form that the grammar has, by the tokens that show it.
 pub data IsShown (tokens : Tokens) (refusal : Refusal) : Type 0 where
   by_grammar : (grammar : Refusal) (word : Option Refusal) → RefusedByGrammar tokens (parsed.Refused grammar) → FirstUnbuilt (terminals tokens.list) word → refusal ≡ first_of grammar word → IsShown tokens refusal
   by_word : (file : File) → Spells file (terminals tokens.list) → IsFirstUnbuilt (terminals tokens.list) refusal → IsShown tokens refusal
+  by_form : (file : File) → Spells file (terminals tokens.list) → IsBuilt (terminals tokens.list) → IsOfForm (terminals tokens.list) refusal → IsShown tokens refusal
 
 -- ---- the text of a file
 
--- the tree spells the tokens, and all that stands in them is built
+-- the tree spells the tokens, all that stands in them is built, and no form does that the profile leaves out
 pub record ReadsTokens (tokens : Tokens) (t : Tree) : Type 0 where
   pub spells : Spells (file_of t) (terminals tokens.list)
   pub built : IsBuilt (terminals tokens.list)
+  pub plain : HasNoForm (terminals tokens.list)
 
 -- the tokens stand for the bytes of the file of this number
 abbrev pub Reads : ℕ → List ℕ → Tree → Type 0

@@ -184,7 +184,7 @@ start_of file = record { file = file; line = 1; col = 1 }
 -- the file that it stands in.
 pub data UseBreaks (stored : Option (List NamedFile)) (folder : List ℕ) (w : Walked) (file : List ℕ) (used : Use) : Refusal → List ℕ → Type 0 where
   -- the unit is not built yet
-  is_unbuilt : is_sysutils used.name ≡ true → UseBreaks stored folder w file used (record { rule = record { number = 13; feature = 44 }; place = used.place }) file
+  is_unbuilt : is_known w used.name ≡ false → is_sysutils used.name ≡ true → UseBreaks stored folder w file used (record { rule = record { number = 13; feature = 44 }; place = used.place }) file
   is_missing : IsNew w used.name → IsMissing stored (path folder used.name) → UseBreaks stored folder w file used (broken 10 used.place) file
   -- a thousand units have been read
   is_too_many : IsNew w used.name → IsThere stored (path folder used.name) → 1000 ≤ length w.units → UseBreaks stored folder w file used (broken 63 used.place) file

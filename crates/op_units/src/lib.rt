@@ -7,9 +7,11 @@
 
 mod error;
 mod forest;
+mod form;
 mod frame;
 mod loader;
 mod name_set;
+mod theorems;
 mod unbuilt;
 mod uses;
 mod walk;
@@ -17,3 +19,4 @@ mod walk;
 pub use error::LoadError;
 pub use forest::Forest;
 pub use loader::load;
+pub use theorems::one_walk;

@@ -1,11 +1,15 @@
 //! Reading the files of a program.
 ghost use Rattle.std.specs.Prelude.{◌≡◌, ◌≤◌, ◌∷◌, None, IfOk, IfErr, length};
 ghost use Rattle.op_scan.specs.Scan.{StandFor};
+ghost use Rattle.op_tree.specs.Terminal.{terminals};
 ghost use Rattle.op_units.specs.Cycles.{FirstIs, RefusesBy, StopsAt, with_frame};
+ghost use Rattle.op_units.specs.Forms.{FirstShown};
 ghost use Rattle.op_units.specs.Names.{IsFolder};
-ghost use Rattle.op_units.specs.Reading.{BreaksAs, IsShownAs, Reads, ReadsTokens, SpelledAs, first_of};
+ghost use Rattle.op_units.specs.Reading.{BreaksAs, IsShownAs, Reads, ReadsTokens, SpelledAs, first_told};
+ghost use Rattle.op_units.specs.Unbuilt.{FirstUnbuilt};
 ghost use Rattle.op_units.specs.Walk.{GivesForest, RefusalHasText, Stops, Visits, nothing_read, walked, walked_of};
 
+use crate::form::first_form;
 use crate::frame::Frame;
 use crate::unbuilt::first_unbuilt;
 use crate::uses::folder_of;
@@ -15,7 +19,7 @@ use op_base::{FILE_MISSING, FileAnswer, Files, NoMemory, Place, Refusal, Rule, T
 use op_core::FirstRefusal;
 use op_parse_code::ParseError;
 use op_parse_decl::parse;
-use op_scan::{ScanError, Tokens, scan};
+use op_scan::{ScanError, Token, Tokens, scan};
 use op_tree::Tree;
 use std::alloc::Global;
 use std::collections::VecDeque;
@@ -171,27 +175,40 @@ fn tree_of_tokens(alloc: Global, tokens: &Tokens) -> Result<Tree, ParseError>
     ensures reads { IfOk result (ReadsTokens tokens.now) }
     ensures breaks { IfErr result (IsShownAs tokens.now) }
 {
-    let word = first_unbuilt(tokens.list.as_slice());
+    let list = tokens.list.as_slice();
+    let word = first_unbuilt(list);
     match parse(alloc, tokens) {
-        Ok(tree) => match word {
+        Ok(tree) => match shown(word, list) {
             None => Ok(tree),
             Some(refusal) => Err(ParseError::Refused(refusal)),
         },
-        Err(ParseError::Refused(refusal)) => Err(ParseError::Refused(first_of(refusal, word))),
-        Err(ParseError::NoMemory) => Err(ParseError::NoMemory),
+        Err(error) => Err(first_told(error, word)),
     }
 }
 
-/// The first of the refusals by the grammar and by a word; the one by the grammar where they stand alike.
-fn first_of(grammar: Refusal, word: Option<Refusal>) -> Refusal
-    ensures { result ≡ first_of grammar word }
+/// What shows in tokens that a tree spells: the refusal by a word, or that of a form.
+fn shown(word: Option<Refusal>, tokens: &[Token]) -> Option<Refusal>
+    ensures { FirstUnbuilt (terminals tokens.now) word → FirstShown (terminals tokens.now) result }
 {
+    match word {
+        Some(refusal) => Some(refusal),
+        None => first_form(tokens),
+    }
+}
+
+/// What the parser answered, or the refusal by a word where that comes first; the one by the grammar where they stand alike.
+fn first_told(error: ParseError, word: Option<Refusal>) -> ParseError
+    ensures { result ≡ first_told error word }
+{
+    let ParseError::Refused(grammar) = error else {
+        return ParseError::NoMemory;
+    };
     let Some(word) = word else {
-        return grammar;
+        return ParseError::Refused(grammar);
     };
     let mut first = FirstRefusal {
         kept: Some(grammar),
     };
     first.report(word);
-    first.kept.unwrap_or(grammar)
+    ParseError::Refused(first.kept.unwrap_or(grammar))
 }

@@ -53,7 +53,7 @@ fn begun(tokens: &[Token]) -> Option<Refusal>
     }
 }
 
-fn told(feature: u8, token: &Token) -> Refusal
+pub fn told(feature: u8, token: &Token) -> Refusal
     ensures { result ≡ record { rule = record { number = 13; feature = feature }; place = (terminal_of token.now).position.place } }
 {
     let rule = Rule {

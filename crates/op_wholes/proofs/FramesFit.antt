@@ -1,4 +1,4 @@
--- The frame of a routine takes no more bytes than the routine is charged.
+-- The frame of a routine takes no more bytes than the routine is charged, and neither does what it needs.
 use Rattle.std.proofs.Common.{◌≡◌, ◌≤◌, ℕ, zero, suc, ◌+◌, ◌*◌, List, length, Option, Some, None, slice_get, refl, sym, ap, ◌∙◌, subst, arith, ◌-◌}
 use Rattle.std.specs.List.{sum_by}
 use Rattle.op_constants.specs.Offsets.{size_in}
@@ -15,6 +15,7 @@ use Rattle.op_expand.specs.Frames.{frame_of, parameters_of}
 use Rattle.op_expand.specs.Homes.{roots_of, size_of_root}
 use Rattle.op_frames.proofs.ExpressionsWithin.{made_both}
 use Rattle.op_frames.proofs.FramesUnder.{frame_small}
+use Rattle.op_frames.proofs.NeedUnder.{need_small, once_small}
 use Rattle.op_frames.proofs.SoundSizes.{open_small, single_some}
 use Rattle.op_frames.proofs.WholesUnder.{wholes_small}
 use Rattle.op_frames.specs.Charged.{IsCharged}
@@ -32,6 +33,7 @@ use Rattle.op_meaning.specs.Items.{act, none, only}
 use Rattle.op_meaning.specs.Shapes.{type_of_local, variables_of}
 use Rattle.op_meaning.specs.Statements.{first_items, work_of_all}
 use Rattle.op_mir.specs.Code.{items_of}
+use Rattle.op_mir.specs.FrameNeed.{each_once, frame_need, roots_named}
 use Rattle.op_mir.specs.declared.code.Routine.{Routine}
 use Rattle.op_mir.specs.declared.path.Root.{Root}
 use Rattle.op_typing.proofs.Rows.{each_row, if_some}
@@ -83,6 +85,13 @@ module _ (core : Core) (stack r : ℕ) (row : Row) (b : Body) (sound : IsSound c
       let charged = statements_small core 0 ((program_of core stack).body r) in
       omega (arith, listed, charged)
 
+  pub once_charged : (routine : Routine) → IsRoutine core r routine → sum_by (size_of_root core) (each_once (roots_named routine.blocks)) ≤ 4 * words_of (statements_weight core ((program_of core stack).body r))
+  once_charged routine is =
+      let wholes = wholes_of_statements core 0 ((program_of core stack).body r) in
+      let listed = once_small core wholes stack r routine is (all_named (length routine.blocks)) in
+      let charged = statements_small core 0 ((program_of core stack).body r) in
+      omega (arith, listed, charged)
+
 pub frame_fits : (core : Core) (stack r : ℕ) (row : Row) (b : Body) → IsSound core → IsSimpleProgram core → slice_get core.routines r ≡ Some row → row.body ≡ Some b
     → (routine : Routine) → IsRoutine core r routine → AreCountedStatements ((program_of core stack).body r)
     → Every (λ v. IsCharged v.role × (v.role ≡ Object → size_in core v.of ≤ 4)) (rows core.variables (variables_of core r))
@@ -91,3 +100,12 @@ pub frame_fits : (core : Core) (stack r : ℕ) (row : Row) (b : Body) → IsSoun
 frame_fits core stack r row b sound simple there body routine is counted kept few =
     frame_small core stack r row b there body routine is counted (open_small core sound.extents) (single_some core sound.extents) kept
     (roots_small core stack r row b sound simple there body counted routine is) few
+
+pub need_fits : (core : Core) (stack r : ℕ) (row : Row) (b : Body) → IsSound core → IsSimpleProgram core → slice_get core.routines r ≡ Some row → row.body ≡ Some b
+    → (routine : Routine) → IsRoutine core r routine → AreCountedStatements ((program_of core stack).body r)
+    → Every (λ v. IsCharged v.role × (v.role ≡ Object → size_in core v.of ≤ 4)) (rows core.variables (variables_of core r))
+    → parameters_of core r ≤ 64
+    → frame_need core r routine ≤ charge_of core (record { 0 = r })
+need_fits core stack r row b sound simple there body routine is counted kept few =
+    need_small core stack r row b there body routine is counted (open_small core sound.extents) (single_some core sound.extents) kept
+    (once_charged core stack r row b sound simple there body counted routine is) few

@@ -1,43 +1,27 @@
 -- Lists of temporaries: each has its own ones, and those that are in a list of two parts are in both.
-use Rattle.std.proofs.Common.{◌≡◌, ℕ, Bool, true, false, ◌&&◌, ◌||◌, List, [], ◌∷◌, ◌++◌, nat_eq, refl}
-use Rattle.std.proofs.lemmas.Bool.{eq-eqb}
-use Rattle.op_core.specs.declared.ids.TypeId.{TypeId}
+use Rattle.std.proofs.Common.{List, [], ◌∷◌, ◌++◌}
+use Rattle.std.proofs.lemmas.Bool.{or_left, or_right}
 use Rattle.std.specs.List.{list_any}
+use Rattle.op_expand.proofs.RoomLemmas.{one_with_itself}
 use Rattle.op_expand.specs.Homes.{is_one_root}
 use Rattle.op_frames.specs.Made.{Every}
 use Rattle.op_frames.specs.Wholes.{IsWholeIn}
 use Rattle.op_mir.specs.View.{view_root}
 use Rattle.op_mir.specs.declared.path.Root.{Root}
 use Rattle.op_mir.specs.declared.path.Root.TheVariants.{Global, Local, Through, Temporary}
-use Rattle.op_typing.proofs.Rows.{not_true}
-
-or_front : (a b : Bool) → a ≡ true → (a || b) ≡ true
-or_front true b e = refl
-or_front false b e = absurd (not_true e)
-
-or_back : (a b : Bool) → b ≡ true → (a || b) ≡ true
-or_back true b e = refl
-or_back false b e = e
-
-and_both : (a b : Bool) → a ≡ true → b ≡ true → (a && b) ≡ true
-and_both true b p q = q
-and_both false b p q = p
-
-one_itself : (of : TypeId) (n : ℕ) → is_one_root (Temporary of n) (Temporary of n) ≡ true
-one_itself of n = and_both (nat_eq of.0 of.0) (nat_eq n n) (eq-eqb of.0 of.0 refl) (eq-eqb n n refl)
 
 -- a list has the temporary
 abbrev pub IsListed : List Root → Root → Type 0
 IsListed wholes root = IsWholeIn wholes (view_root root)
 
 first_listed : (x : Root) (rs : List Root) → IsListed (x ∷ rs) x
-first_listed (Temporary of n) rs = or_front (is_one_root (Temporary of n) (Temporary of n)) (list_any (is_one_root (Temporary of n)) rs) (one_itself of n)
+first_listed (Temporary of n) rs = or_left (is_one_root (Temporary of n) (Temporary of n)) (list_any (is_one_root (Temporary of n)) rs) (one_with_itself of n)
 first_listed (Global v) rs = tt
 first_listed (Local v) rs = tt
 first_listed (Through v) rs = tt
 
 listed_behind : (x r : Root) (rs : List Root) → IsListed rs r → IsListed (x ∷ rs) r
-listed_behind x (Temporary of n) rs h = or_back (is_one_root (Temporary of n) x) (list_any (is_one_root (Temporary of n)) rs) h
+listed_behind x (Temporary of n) rs h = or_right (is_one_root (Temporary of n) x) (list_any (is_one_root (Temporary of n)) rs) h
 listed_behind x (Global v) rs h = tt
 listed_behind x (Local v) rs h = tt
 listed_behind x (Through v) rs h = tt

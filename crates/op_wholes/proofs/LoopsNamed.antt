@@ -1,5 +1,6 @@
 -- What is stored and written, and loops that count, name no other temporaries of record and array types than a list has.
 use Rattle.std.proofs.Common.{◌≡◌, ◌⊎◌, inl, inr, ℕ, ◌+◌, Bool, true, false, List, [], ◌∷◌, Option, Some, slice_get, refl, sym, ap, subst}
+use Rattle.std.proofs.lemmas.Option.{none-some, same_Some}
 use Rattle.op_core.specs.Members.{Kind}
 use Rattle.op_core.specs.Sizes.{type_at}
 use Rattle.op_core.specs.StatementTyping.{GivesElements, host}
@@ -25,7 +26,6 @@ use Rattle.op_mir.specs.declared.path.Root.TheVariants.{Temporary}
 use Rattle.op_tree.specs.declared.statement.Direction.{Direction}
 use Rattle.op_tree.specs.declared.statement.Direction.TheVariants.{To}
 use Rattle.op_typing.proofs.Founds.{env_at}
-use Rattle.op_typing.proofs.Rows.{none_some, some_is}
 use Rattle.op_wholes.proofs.FoundsNamed.{AreNamed, HasOwn, both, three, IsNow, place_in, variable_in, owned_path, converted_in}
 use Rattle.op_wholes.proofs.ListsCovered.{IsListed}
 use Rattle.op_wholes.proofs.PlacesFound.{IsAt}
@@ -120,8 +120,8 @@ module _ (core : Core) (r : ℕ) (wholes : List Root) (blocks : ℕ) where
   collection_in here of element id v into body gives row converts own_is own_next b = by (type_at core of) refl gives
     where
       by : (o : Option CoreType) → type_at core of ≡ o → Gives o element → AreNamed wholes blocks (in_collection (env_at core r) here of o id into body)
-      by (Some (Array at each)) e (inl g) = array_in here of each id v into body row (subst (λ from. Converts core into from v.of) (sym (some_is g)) converts) own_is (array_whole core of at each e) own_next b
-      by (Some (Array at each)) e (inr (inl g)) = absurd (none_some g)
+      by (Some (Array at each)) e (inl g) = array_in here of each id v into body row (subst (λ from. Converts core into from v.of) (sym (same_Some _ _ g)) converts) own_is (array_whole core of at each e) own_next b
+      by (Some (Array at each)) e (inr (inl g)) = absurd (none-some _ g)
       by (Some (Array at each)) e (inr (inr g)) = absurd (cc)
       by (Some (Set base)) e g = set_in here base id into body b
       by _ e g = tt

@@ -1,6 +1,8 @@
 -- A place is found where it is: its path begins with a variable.
-use Rattle.std.proofs.Common.{◌≡◌, ℕ, Bool, true, false, ◌&&◌, Option, Some, refl, sym, ◌∙◌, subst}
+use Rattle.std.proofs.Common.{◌≡◌, ℕ, Bool, true, false, Option, Some, refl, sym, ◌∙◌, subst}
 use Rattle.std.specs.Prelude.{IsTrue}
+use Rattle.std.proofs.lemmas.Bool.{false_from_ne_true}
+use Rattle.std.specs.Cmp.{second_so}
 use Rattle.op_core.specs.Expression.{Expression, expression, Root as Start, constant as fixed, variable, object, call, construct as constructed, set as bracketed, eof, eoln, Steps, no_steps, steps, Action as Doing, convert, bracket, field, index, method, prefixed, operate, is, apply, copy as copied}
 use Rattle.op_core.specs.Sizes.{type_at}
 use Rattle.op_core.specs.Typing.{Sees, AreSteps, Fits, IsAction, IsRoot, IsTyped, is_place, is_place_after, is_variable, leads_on}
@@ -15,10 +17,6 @@ use Rattle.op_meaning.specs.Items.{Items}
 use Rattle.op_typing.proofs.Founds.{env_at}
 use Rattle.op_typing.proofs.Rows.{not_true}
 use Rattle.op_typing.specs.Simple.{AreSimpleSteps, IsSimple, IsSimpleRoot, IsSimpleStep, IsSolidType, is_solid, is_text, text_after}
-
-and_second : (a b : Bool) → (a && b) ≡ true → b ≡ true
-and_second true b e = e
-and_second false b e = absurd (not_true e)
 
 -- a place, and no value that was made
 abbrev pub IsAt : Now → Type 0
@@ -45,15 +43,11 @@ index_leads : (chars : Bool) (o : Option CoreType) (e : Expression) (so_far : Bo
 index_leads chars (Some (Array at element)) e so_far solid h = h
 index_leads chars (Some (OpenArray element)) e so_far solid h = h
 index_leads chars (Some (DynamicArray element)) e so_far solid h = absurd (not_true solid)
-index_leads chars (Some String) e so_far solid h = and_second chars so_far h
+index_leads chars (Some String) e so_far solid h = second_so chars so_far h
 index_leads chars _ e so_far solid h = absurd (not_true h)
 
 text_leads : (chars : Bool) (o : Option CoreType) (e : Expression) (so_far : Bool) → o ≡ Some String → leads_on chars o (index e) so_far ≡ true → so_far ≡ true
-text_leads chars o e so_far same h = and_second chars so_far (subst (λ o. leads_on chars o (index e) so_far ≡ true) same h)
-
-is_false : (b : Bool) → (b ≡ true → ⊥) → b ≡ false
-is_false true h = absurd (h refl)
-is_false false h = refl
+text_leads chars o e so_far same h = second_so chars so_far (subst (λ o. leads_on chars o (index e) so_far ≡ true) same h)
 
 index_at_by : (core : Core) (of : TypeId) (here : Here) (f : Found) (i : Items) (now : Now) → IsAt now → IsAt (then_index_by core of here f i now).now
 index_at_by core of here f i (at_path p) h = tt
@@ -95,7 +89,7 @@ module _ (core : Core) (r : ℕ) (sees : Sees) where
   step_reached chars (is to) here false of next so_far f h s k = (s, λ e. absurd (leads_tells chars (type_at core of) (is to) so_far e))
   step_reached chars (apply function checked) here false of next so_far f h s k = (s, λ e. absurd (leads_tells chars (type_at core of) (apply function checked) so_far e))
   step_reached chars (copied e e') here false of next so_far f h s k = (s, λ leads. absurd (leads_tells chars (type_at core of) (copied e e') so_far leads))
-  step_reached chars bracket here true of next so_far f h s k = (subst (λ of. type_at core of ≡ Some String) h k.0, is_false (leads_on chars (type_at core of) bracket so_far) (leads_tells chars (type_at core of) bracket so_far))
+  step_reached chars bracket here true of next so_far f h s k = (subst (λ of. type_at core of ≡ Some String) h k.0, false_from_ne_true (leads_on chars (type_at core of) bracket so_far) (leads_tells chars (type_at core of) bracket so_far))
   step_reached chars (index e) here true of next so_far f h s k = (s.1, λ leads. absurd (not_true (sym k.1 ∙ text_leads chars (type_at core of) e so_far k.0 leads)))
   step_reached chars (apply function checked) here true of next so_far f h s k = (s.1, λ e. absurd (leads_tells chars (type_at core of) (apply function checked) so_far e))
   step_reached chars _ here true of next so_far f h s k = absurd s

@@ -21,6 +21,7 @@ use Rattle.op_meaning.specs.Charge.{charge_of, statements_weight, words_of}
 use Rattle.op_meaning.specs.Frames.{program_of}
 use Rattle.op_meaning.specs.Shapes.{variables_of}
 use Rattle.op_mir.specs.Code.{items_of}
+use Rattle.op_mir.specs.FrameNeed.{frame_need}
 use Rattle.op_mir.specs.declared.code.Routine.{Routine}
 use Rattle.op_typing.specs.Simple.{IsSimpleProgram}
 use Rattle.op_wholes.specs.Listed.{wholes_of_statements}
@@ -44,3 +45,12 @@ FramesFitCharges =
     → Every (λ v. IsCharged v.role × (v.role ≡ Object → size_in core v.of ≤ 4)) (rows core.variables (variables_of core r))
     → parameters_of core r ≤ 64
     → (frame_of core r routine).locals + 4 * (registers_of_routine core r routine + 1) + 4 * (63 - parameters_of core r) ≤ charge_of core (record { 0 = r })
+
+-- So does what its managed code is said to need.
+abbrev pub NeedsFitCharges : Type 0
+NeedsFitCharges =
+    (core : Core) (stack r : ℕ) (row : Row) (b : Body) → IsSound core → IsSimpleProgram core → slice_get core.routines r ≡ Some row → row.body ≡ Some b
+    → (routine : Routine) → IsRoutine core r routine → AreCountedStatements ((program_of core stack).body r)
+    → Every (λ v. IsCharged v.role × (v.role ≡ Object → size_in core v.of ≤ 4)) (rows core.variables (variables_of core r))
+    → parameters_of core r ≤ 64
+    → frame_need core r routine ≤ charge_of core (record { 0 = r })

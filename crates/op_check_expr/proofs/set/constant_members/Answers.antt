@@ -1,10 +1,10 @@
 use Rattle.std.proofs.Common.{Some, map, sym, subst, refl, arith, length, ◌≡◌}
+use Rattle.std.proofs.lemmas.List.{nil_from_length}
 use Rattle.op_check_expr.proofs.Following.{Completes, begins, two_steps}
 use Rattle.op_check_expr.specs.Constructors.{constant_member, constant_members, member_of, place_of}
 use Rattle.op_judgement.specs.Judgement.{Reports}
 use Rattle.op_types.specs.Folding.{gathered_means}
 use Rattle.op_check_expr.proofs.set.constant_members.Goals as goal
-use Rattle.op_types.proofs.Folding.{nothing}
 use Rattle.op_types.specs.ConstantParts.{no_members}
 
 pub loop-member-init : goal.loop-member-init
@@ -35,4 +35,4 @@ returns c =
     let h = c.in-None.ensures.steps.0 in
     let k = rest.ok in
     let e : length rest.items ≡ 0 = omega (arith, h, k) in
-    (subst (λ ms. Completes whole (constant_members core c.loop-member.set (map member_of ms)) c.args.sink.now c.loop-member.sink) (nothing rest.items e) c.loop-member.invariant).completes c.loop-member.sink c.loop-member.set (refl, refl)
+    (subst (λ ms. Completes whole (constant_members core c.loop-member.set (map member_of ms)) c.args.sink.now c.loop-member.sink) (nil_from_length rest.items e) c.loop-member.invariant).completes c.loop-member.sink c.loop-member.set (refl, refl)

@@ -1,10 +1,10 @@
 use Rattle.std.proofs.Common.{◌≡◌, ◌++◌, map, sym, subst, ap, ◌∙◌, arith, length}
+use Rattle.std.proofs.lemmas.List.{nil_from_length}
 use Rattle.op_core.specs.Expression.{element_of, expression, no_steps, set as set_root}
 use Rattle.op_check_expr.proofs.Sets.{all_elements, more_elements}
 use Rattle.op_check_expr.specs.Constructors.{element_tree, elements_from, member_of}
 use Rattle.op_check_expr.specs.Values.{computed}
 use Rattle.op_check_expr.proofs.set.set_tree.Goals as goal
-use Rattle.op_types.proofs.Folding.{nothing}
 
 pub loop-member-init : goal.loop-member-init
 loop-member-init c =
@@ -40,5 +40,5 @@ returns c =
     let k = rest.ok in
     let e : length rest.items ≡ 0 = omega (arith, h, k) in
     ap computed (c.set_expression.ensures ∙ ap (λ es. expression (set_root es) c.args.of no_steps)
-    (all_elements es (map (element_tree core base) ms) (subst (λ rs. map element_of es ++ map (element_tree core base) (map member_of rs) ≡ map (element_tree core base) ms) (nothing rest.items e) c.loop-member.invariant.all)
+    (all_elements es (map (element_tree core base) ms) (subst (λ rs. map element_of es ++ map (element_tree core base) (map member_of rs) ≡ map (element_tree core base) ms) (nil_from_length rest.items e) c.loop-member.invariant.all)
     ∙ ap (λ b. elements_from (map (element_tree core b) ms)) c.base_or_own-base.ensures))

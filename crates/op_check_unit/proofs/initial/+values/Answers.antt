@@ -1,5 +1,5 @@
 use Rattle.std.proofs.Common.{◌∷◌, [], IfOk, ap, drop, refl, subst, sym, ◌+◌, ◌∙◌}
-use Rattle.std.proofs.lemmas.List.{at_drop_all}
+use Rattle.std.proofs.lemmas.List.{at_drop_all, nil_from_length}
 use Rattle.std.specs.Option.{option_map}
 use Rattle.op_judgement.proofs.Computed.{Reports}
 use Rattle.op_check_stmt.proofs.Parts.{Completes, ends, next, seen}
@@ -15,7 +15,7 @@ use Rattle.op_tree.specs.Initial.{initial_of, no_field_initials}
 use Rattle.op_tree.specs.Lists.{field_initials_of, initials_of}
 use Rattle.op_check_unit.proofs.initial.+values.Goals as goal
 use Rattle.op_judgement.specs.declared.rules.LanguageRule.TheVariants.{NoMember, NotAssignable}
-use Rattle.op_types.proofs.Folding.{next_of, nothing}
+use Rattle.op_types.proofs.Folding.{next_of}
 
 pub first-returns-in-List : goal.first-returns-in-List
 first-returns-in-List t c =
@@ -69,7 +69,7 @@ fields-returns-in_default t c =
     let whole = checked (parts c.args.declared.now (field_initials_of list)) in
     subst (Reports whole c.args.sink.now c.refuse.new.sink) (sym (ap values_in c.refuse.ensures.0))
     (refused_at first_value_of values (items_of l.typed) whole (checked (parts l.left.now (field_initials_of (drop l.item-index list)))) NoMember x.name.position.place c.args.sink.now l.sink c.refuse.new.sink l.invariant
-    (ap (λ fs. checked (parts fs (field_initials_of (drop l.item-index list)))) (nothing l.left.now c.in_default.ensures.cases) ∙ ap (λ is. checked (parts [] (field_initials_of is))) (next_of list l.item-index x c.loop-item-test.true c.item-item.is))
+    (ap (λ fs. checked (parts fs (field_initials_of (drop l.item-index list)))) (nil_from_length l.left.now c.in_default.ensures.cases) ∙ ap (λ is. checked (parts [] (field_initials_of is))) (next_of list l.item-index x c.loop-item-test.true c.item-item.is))
     c.refuse.ensures.1)
 
 pub fields-returns-then-not-is_name : goal.fields-returns-then-not-is_name
@@ -117,7 +117,7 @@ fields-returns-in-None t c =
     subst (Reports whole c.args.sink.now l.sink) (seen first_values_of l.typed)
     (ends first_value_of values no_values first_values_of all_values (items_of l.typed) whole c.args.sink.now l.sink
     (subst (λ r. Completes first_value_of values (items_of l.typed) whole r c.args.sink.now l.sink)
-    (at_drop_all (λ is. checked (parts l.left.now (field_initials_of is))) list l.item-index c.loop-item-test.false ∙ ap (λ fs. checked (parts fs no_field_initials)) (nothing l.left.now c.in-None.ensures.cases)) l.invariant))
+    (at_drop_all (λ is. checked (parts l.left.now (field_initials_of is))) list l.item-index c.loop-item-test.false ∙ ap (λ fs. checked (parts fs no_field_initials)) (nil_from_length l.left.now c.in-None.ensures.cases)) l.invariant))
 
 pub fields-returns-in-Some-split_first : goal.fields-returns-in-Some-split_first
 fields-returns-in-Some-split_first t c =

@@ -5,5 +5,5 @@ use Rattle.op_expand.proofs.block.push_blocks.Given as goal
 -- the blocks that are left give the rest
 abbrev pub invariant-loop-block : goal.invariant-loop-block
 invariant-loop-block l =
-    l.low.items ++ blocks_of l.core l.mir l.frame l.routine.0 l.id l.code.items (drop l.block-index l.blocks)
-    ≡ l.fn.low.items ++ blocks_of l.core l.mir l.frame l.routine.0 l.first l.fn.front.items l.blocks
+    l.low.items ++ blocks_of l.core l.mir l.frame l.literals l.code.items (drop l.block-index l.blocks)
+    ≡ l.fn.low.items ++ blocks_of l.core l.mir l.frame l.literals l.fn.front.items l.blocks

@@ -1,3 +1,4 @@
+use Rattle.op_frames.proofs.FramesNeeded.{frame_needed}
 use Rattle.op_frames.proofs.FramesUnder.{frame_small}
 use Rattle.op_frames.proofs.GlobalsUnder.{globals_fit}
 use Rattle.op_frames.proofs.LowFine.{buildable, laid_out, valid}
@@ -18,4 +19,5 @@ returns c = record {
   frames = frame_small;
   wholes = wholes_small;
   sizes = λ core sound. record { small = sizes_small core sound; single = single_some core sound.extents; open_ = open_small core sound.extents };
+  needed = λ core mir r routine sound valid. frame_needed core mir r routine (single_some core sound.extents) valid;
 }

@@ -1,9 +1,9 @@
 use Rattle.std.proofs.Common.{ap, refl, subst, sym, ◌∙◌}
+use Rattle.op_base.proofs.Tests.{map_ok}
 use Rattle.op_core.proofs.Nodes.{list_nodes}
 use Rattle.op_core.specs.Expression.{action_of, argument_of, call, construct, element_of, expr_of, range, root_of, set}
 use Rattle.op_core.specs.Nodes.{arguments_of, elements_of, expressions_of}
 use Rattle.op_core.specs.Sizes.{type_at}
-use Rattle.op_items.proofs.Behind.{map_ok}
 use Rattle.op_items.proofs.Finding.{acts_gives, find_begins, find_ends, find_goes_on, index_gives, makes, stands, step_gives, step_ok, two_gives}
 use Rattle.op_items.proofs.Productions.{call_found, construct_found, gather_ends, gather_goes_on, no_array, not_given, one_gathered, pass_adds, pass_ends, pass_given, range_gathered, root_gives, set_found, two_alike, two_made}
 use Rattle.op_items.specs.Adding.{Adds, Gives, env_view, found_view, two_on}

@@ -1,6 +1,7 @@
 use Rattle.std.proofs.Common.{Some, sym, ap, ap₂, ◌∙◌}
+use Rattle.std.proofs.lemmas.List.{nil_from_length}
 use Rattle.op_optimize.specs.Simplifying.{and_fact, facts_behind, left_out, stays_as}
-use Rattle.op_optimize.proofs.SimplifiedCode.{goes_on_with, goes_on_without, is_all, no_items, stops_at}
+use Rattle.op_optimize.proofs.SimplifiedCode.{goes_on_with, goes_on_without, is_all, stops_at}
 use Rattle.op_optimize.proofs.block.simplified.Goals as goal
 
 pub loop-instruction-preserved-in-Some-value : goal.loop-instruction-preserved-in-Some-value
@@ -34,4 +35,4 @@ loop-instruction-preserved c =
 pub returns : goal.returns
 returns c =
     ap Some (c.from.ensures ∙ c.shrink_to_fit.ensures.items)
-    ∙ is_all c.args.live.now c.args.way c.loop-instruction.made.items c.loop-instruction.facts.items c.loop-instruction.known.items c.loop-instruction.rest.now (no_items c.loop-instruction.rest.now c.in_default.ensures.cases) ∙ c.loop-instruction.invariant
+    ∙ is_all c.args.live.now c.args.way c.loop-instruction.made.items c.loop-instruction.facts.items c.loop-instruction.known.items c.loop-instruction.rest.now (nil_from_length c.loop-instruction.rest.now c.in_default.ensures.cases) ∙ c.loop-instruction.invariant

@@ -1,8 +1,8 @@
 use Rattle.std.proofs.Common.{◌≡◌, [], ◌∷◌, ◌++◌, subst, sym, ap, ◌∙◌, append_assoc, append-nil}
+use Rattle.std.proofs.lemmas.List.{nil_from_length}
 use Rattle.op_optimize.specs.Each.{Each, NoneLeft}
 use Rattle.op_optimize.specs.Optimizing.{OptimizesRoutine}
 use Rattle.op_optimize.proofs.Gathering.{each_behind}
-use Rattle.op_optimize.proofs.SimplifiedCode.{no_items}
 use Rattle.op_optimize.proofs.program.optimized_routines.Goals as goal
 
 pub loop-routine-init : goal.loop-routine-init
@@ -17,5 +17,5 @@ loop-routine-preserved c =
 
 pub returns : goal.returns
 returns c =
-    let none : c.loop-routine.routine-iterator.rest.items ≡ [] = no_items c.loop-routine.routine-iterator.rest.items (sym c.loop-routine.routine-iterator.rest.ok.0 ∙ c.in-None.ensures.steps.0) in
+    let none : c.loop-routine.routine-iterator.rest.items ≡ [] = nil_from_length c.loop-routine.routine-iterator.rest.items (sym c.loop-routine.routine-iterator.rest.ok.0 ∙ c.in-None.ensures.steps.0) in
     subst (λ rs. Each OptimizesRoutine rs c.loop-routine.made.items) (sym (append-nil c.loop-routine.yielded) ∙ ap (λ rs. c.loop-routine.yielded ++ rs) (sym none) ∙ c.loop-routine.invariant.0) c.loop-routine.invariant.1

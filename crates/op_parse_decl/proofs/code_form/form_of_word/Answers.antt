@@ -1,4 +1,4 @@
-use Rattle.op_parse_code.specs.Form.{is_asm, is_goto, is_inline, is_with}
+use Rattle.op_parse_decl.specs.Form.{is_asm, is_goto, is_inline, is_with}
 use Rattle.op_parse_decl.proofs.DeclaredForms.{told_first}
 use Rattle.op_parse_decl.proofs.code_form.form_of_word.Goals as goal
 

@@ -1,5 +1,5 @@
 use Rattle.std.proofs.Common.{sym, ◌∙◌}
-use Rattle.op_parse_code.specs.Form.{is_class_operator, is_class_member}
+use Rattle.op_parse_decl.specs.Form.{is_class_operator, is_class_member}
 use Rattle.op_parse_decl.proofs.DeclaredForms.{told_first}
 use Rattle.op_parse_decl.proofs.declared_form.class_member.Goals as goal
 

@@ -1,4 +1,4 @@
-use Rattle.op_parse_code.specs.Form.{is_library}
+use Rattle.op_parse_decl.specs.Form.{is_library}
 use Rattle.op_parse_decl.proofs.DeclaredForms.{told_first}
 use Rattle.op_parse_decl.proofs.declared_form.form_of_file.Goals as goal
 

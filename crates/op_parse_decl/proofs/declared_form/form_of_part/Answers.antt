@@ -1,4 +1,4 @@
-use Rattle.op_parse_code.specs.Form.{is_operator, is_label, is_asm, is_inline, is_resource_string, is_thread_variable, is_exports}
+use Rattle.op_parse_decl.specs.Form.{is_operator, is_label, is_asm, is_inline, is_resource_string, is_thread_variable, is_exports}
 use Rattle.op_parse_decl.proofs.DeclaredForms.{told_first}
 use Rattle.op_parse_decl.proofs.declared_form.form_of_part.Goals as goal
 
@@ -27,4 +27,4 @@ pub returns-in-Class : goal.returns-in-Class
 returns-in-Class c = rw (c.in_ok-first.ensures.cases.0, c.in-Class.is) (c.class_member.ensures _)
 
 pub returns-in_default : goal.returns-in_default
-returns-in_default c = rw c.in_ok-first.ensures.cases.0 (c.generic.ensures _)
+returns-in_default c = rw c.in_ok-first.ensures.cases.0 (c.generic.ensures.first _)

@@ -2,7 +2,8 @@ use Rattle.std.proofs.Common.{refl, arith}
 use Rattle.op_parse_code.proofs.Errors.{passed, ok_weaker, err_weaker}
 use Rattle.op_parse_code.proofs.Names.{empty_not}
 use Rattle.op_parse_code.specs.Refusal.{out_of_memory}
-use Rattle.op_parse_decl.proofs.Denoters.{denoter_none, denoter_form, denoter_procedural, denoter_no_procedural, denoter_too_deep, denoter_bounded, denoter_bounded_whole, denoter_behind, denoter_behind_whole, denoter_unpacked, denoter_unpacked_whole, denoter_packed, denoter_packed_whole, set_of_missing, set_base, set_whole, structure_there, structure_there_whole, packed_none, array_indices, array_element, array_whole, indices_none, indices_none_whole, indices_too_deep, indices_types, indices_of_missing, indices_whole, indexing_item, indexing_more, indexing_close, indexing_ends}
+use Rattle.op_parse_decl.specs.Refusal.{by_grammar}
+use Rattle.op_parse_decl.proofs.Denoters.{denoter_none, denoter_form, denoter_procedural, denoter_no_procedural, denoter_too_deep, expression_denotes, word_denotes, denoter_bounded, denoter_bounded_whole, denoter_behind, denoter_behind_whole, denoter_unpacked, denoter_unpacked_whole, denoter_packed, denoter_packed_whole, set_of_missing, set_base, set_whole, structure_there, structure_there_whole, packed_none, array_indices, array_element, array_whole, indices_none, indices_none_whole, indices_too_deep, indices_types, indices_of_missing, indices_whole, indexing_item, indexing_more, indexing_close, indexing_ends}
 use Rattle.op_parse_decl.proofs.Fields.{fields_names, fields_colon, fields_type, fields_whole, fielding_ends, fielding_form, fielding_fields, fielding_more, fielding_unclosed, fielding_closes, record_refuses, record_goes_on, record_whole}
 use Rattle.op_parse_decl.specs.Opening.{begins_denoter}
 use Rattle.op_scan.specs.declared.token.TokenKind.TheVariants as kind
@@ -24,19 +25,19 @@ pub denoter-returns-else-is_procedural-clause-refused : goal.denoter-returns-els
 denoter-returns-else-is_procedural-clause-refused t c = rw c.in-Some.ensures.cases.0 (denoter_no_procedural c.args.setting.left c.args.setting.end _ _ _ _ c.in-Procedural.ensures (rw c.in-Some.ensures.cases.0 at c.syntax-in-Procedural.ensures))
 
 pub denoter-returns-in_err-left-in-Bound-clause-refused : goal.denoter-returns-in_err-left-in-Bound-clause-refused
-denoter-returns-in_err-left-in-Bound-clause-refused t c = passed c.from_residual.result c.from_residual.ensures.1 (λ y e. rw e (denoter_too_deep c.args.setting.left c.args.setting.end _ _ c.in_err-left-in-Bound.ensures.refused.0 c.in_err-left-in-Bound.ensures.refused.1))
+denoter-returns-in_err-left-in-Bound-clause-refused t c = passed c.from_residual.result c.from_residual.ensures.1 (λ y e. rw (e, c.in-Some.ensures.cases.0) (denoter_too_deep c.args.setting.left c.args.setting.end _ _ _ _ (expression_denotes _ c.in-Bound.ensures) c.in_err-left-in-Bound.ensures.refused.0 (rw c.in-Some.ensures.cases.0 at c.in_err-left-in-Bound.ensures.refused.1)))
 
 pub denoter-returns-in_err-left-in-Set-clause-refused : goal.denoter-returns-in_err-left-in-Set-clause-refused
-denoter-returns-in_err-left-in-Set-clause-refused t c = passed c.from_residual-in_err-left-in-Set.result c.from_residual-in_err-left-in-Set.ensures.1 (λ y e. rw e (denoter_too_deep c.args.setting.left c.args.setting.end _ _ c.in_err-left-in-Set.ensures.refused.0 c.in_err-left-in-Set.ensures.refused.1))
+denoter-returns-in_err-left-in-Set-clause-refused t c = passed c.from_residual-in_err-left-in-Set.result c.from_residual-in_err-left-in-Set.ensures.1 (λ y e. rw (e, c.in-Some.ensures.cases.0) (denoter_too_deep c.args.setting.left c.args.setting.end _ _ _ _ (word_denotes c.in-Set.ensures refl) c.in_err-left-in-Set.ensures.refused.0 (rw c.in-Some.ensures.cases.0 at c.in_err-left-in-Set.ensures.refused.1)))
 
 pub denoter-returns-in_err-left-in-Array-clause-refused : goal.denoter-returns-in_err-left-in-Array-clause-refused
-denoter-returns-in_err-left-in-Array-clause-refused t c = passed c.from_residual-in_err-left-in-Array.result c.from_residual-in_err-left-in-Array.ensures.1 (λ y e. rw e (denoter_too_deep c.args.setting.left c.args.setting.end _ _ c.in_err-left-in-Array.ensures.refused.0 c.in_err-left-in-Array.ensures.refused.1))
+denoter-returns-in_err-left-in-Array-clause-refused t c = passed c.from_residual-in_err-left-in-Array.result c.from_residual-in_err-left-in-Array.ensures.1 (λ y e. rw (e, c.in-Some.ensures.cases.0) (denoter_too_deep c.args.setting.left c.args.setting.end _ _ _ _ (word_denotes c.in-Array.ensures refl) c.in_err-left-in-Array.ensures.refused.0 (rw c.in-Some.ensures.cases.0 at c.in_err-left-in-Array.ensures.refused.1)))
 
 pub denoter-returns-in_err-left-in-Record-clause-refused : goal.denoter-returns-in_err-left-in-Record-clause-refused
-denoter-returns-in_err-left-in-Record-clause-refused t c = passed c.from_residual-in_err-left-in-Record.result c.from_residual-in_err-left-in-Record.ensures.1 (λ y e. rw e (denoter_too_deep c.args.setting.left c.args.setting.end _ _ c.in_err-left-in-Record.ensures.refused.0 c.in_err-left-in-Record.ensures.refused.1))
+denoter-returns-in_err-left-in-Record-clause-refused t c = passed c.from_residual-in_err-left-in-Record.result c.from_residual-in_err-left-in-Record.ensures.1 (λ y e. rw (e, c.in-Some.ensures.cases.0) (denoter_too_deep c.args.setting.left c.args.setting.end _ _ _ _ (word_denotes c.in-Record.ensures refl) c.in_err-left-in-Record.ensures.refused.0 (rw c.in-Some.ensures.cases.0 at c.in_err-left-in-Record.ensures.refused.1)))
 
 pub denoter-returns-in_err-left-in-Packed-clause-refused : goal.denoter-returns-in_err-left-in-Packed-clause-refused
-denoter-returns-in_err-left-in-Packed-clause-refused t c = passed c.from_residual-in_err-left-in-Packed.result c.from_residual-in_err-left-in-Packed.ensures.1 (λ y e. rw e (denoter_too_deep c.args.setting.left c.args.setting.end _ _ c.in_err-left-in-Packed.ensures.refused.0 c.in_err-left-in-Packed.ensures.refused.1))
+denoter-returns-in_err-left-in-Packed-clause-refused t c = passed c.from_residual-in_err-left-in-Packed.result c.from_residual-in_err-left-in-Packed.ensures.1 (λ y e. rw (e, c.in-Some.ensures.cases.0) (denoter_too_deep c.args.setting.left c.args.setting.end _ _ _ _ (word_denotes c.in-Packed.ensures refl) c.in_err-left-in-Packed.ensures.refused.0 (rw c.in-Some.ensures.cases.0 at c.in_err-left-in-Packed.ensures.refused.1)))
 
 pub denoter-returns-in_ok-left-in-Bound-clause-whole : goal.denoter-returns-in_ok-left-in-Bound-clause-whole
 denoter-returns-in_ok-left-in-Bound-clause-whole t c = ok_weaker c.bounded.result c.bounded.ensures.whole (λ f h. denoter_bounded_whole _ _ _ _ _ c.in_ok-left-in-Bound.ensures.inside h)
@@ -75,7 +76,7 @@ pub set-returns-in_err-base-clause-refused : goal.set-returns-in_err-base-clause
 set-returns-in_err-base-clause-refused t c = passed c.from_residual-in_err-base.result c.from_residual-in_err-base.ensures.1 (λ y e. rw e (set_base c.args.position _ c.args.setting.left c.args.setting.end _ _ _ c.in_ok-rest.ensures.mark.1 c.in_err-base.ensures.refused))
 
 pub set-returns-in_err-node-clause-refused : goal.set-returns-in_err-node-clause-refused
-set-returns-in_err-node-clause-refused t c = passed c.from_residual-in_err-node.result c.from_residual-in_err-node.ensures.1 (λ y e. out_of_memory e)
+set-returns-in_err-node-clause-refused t c = passed c.from_residual-in_err-node.result c.from_residual-in_err-node.ensures.1 (λ y e. by_grammar (out_of_memory e))
 
 pub set-returns-clause-whole : goal.set-returns-clause-whole
 set-returns-clause-whole t c = rw c.in_ok-node.ensures (set_whole c.args.position _ c.args.setting.left _ _ _ _ c.in_ok-rest.ensures.mark.1 c.in_ok-base.ensures.whole)
@@ -102,7 +103,7 @@ pub array-returns-in_err-element-clause-refused : goal.array-returns-in_err-elem
 array-returns-in_err-element-clause-refused t c = passed c.from_residual-in_err-element.result c.from_residual-in_err-element.ensures.1 (λ y e. rw e (array_element c.args.position c.args.packed c.args.setting.left c.args.setting.end _ _ _ _ c.in_ok-indices.ensures.whole c.in_err-element.ensures.refused))
 
 pub array-returns-in_err-node-clause-refused : goal.array-returns-in_err-node-clause-refused
-array-returns-in_err-node-clause-refused t c = passed c.from_residual-in_err-node.result c.from_residual-in_err-node.ensures.1 (λ y e. λ q. out_of_memory e)
+array-returns-in_err-node-clause-refused t c = passed c.from_residual-in_err-node.result c.from_residual-in_err-node.ensures.1 (λ y e. λ q. by_grammar (out_of_memory e))
 
 pub array-returns-clause-whole : goal.array-returns-clause-whole
 array-returns-clause-whole t c = rw c.in_ok-node.ensures (array_whole c.args.position c.args.packed c.args.setting.left _ _ _ _ _ c.in_ok-indices.ensures.whole c.in_ok-element.ensures.whole)
@@ -129,7 +130,7 @@ pub index_types-returns-in_err-index-clause-refused : goal.index_types-returns-i
 index_types-returns-in_err-index-clause-refused t c = passed c.from_residual.result c.from_residual.ensures.1 (λ y e. rw e (indexing_item c.args.setting.left c.args.setting.end _ _ _ _ c.loop-types.invariant.0 c.in_err-index.ensures.refused))
 
 pub index_types-returns-in_err-push-clause-refused : goal.index_types-returns-in_err-push-clause-refused
-index_types-returns-in_err-push-clause-refused t c = passed c.from_residual-in_err-push.result c.from_residual-in_err-push.ensures.1 (λ y e. out_of_memory e)
+index_types-returns-in_err-push-clause-refused t c = passed c.from_residual-in_err-push.result c.from_residual-in_err-push.ensures.1 (λ y e. by_grammar (out_of_memory e))
 
 pub index_types-loop-types-preserved : goal.index_types-loop-types-preserved
 index_types-loop-types-preserved t c = (rw c.in_ok-push.ensures.items (indexing_more c.args.setting.left c.args.setting.end _ _ _ _ _ _ _ c.loop-types.invariant.0 c.in_ok-index.ensures.whole c.in-Some.ensures.mark.1), omega (arith, c.loop-types.invariant.1, c.in-Some.ensures.shorter, c.in_ok-index.ensures.shorter))
@@ -159,7 +160,7 @@ pub field_lists-returns-in_err-fields-clause-refused : goal.field_lists-returns-
 field_lists-returns-in_err-fields-clause-refused t c = passed c.from_residual.result c.from_residual.ensures.1 (λ y e. rw e (fielding_fields c.args.setting.left c.args.setting.end _ _ _ _ c.loop-after.invariant.0 c.in_default.ensures.mark c.in_err-fields.ensures.refused))
 
 pub field_lists-returns-in_err-push-clause-refused : goal.field_lists-returns-in_err-push-clause-refused
-field_lists-returns-in_err-push-clause-refused t c = passed c.from_residual-in_err-push.result c.from_residual-in_err-push.ensures.1 (λ y e. λ q. out_of_memory e)
+field_lists-returns-in_err-push-clause-refused t c = passed c.from_residual-in_err-push.result c.from_residual-in_err-push.ensures.1 (λ y e. λ q. by_grammar (out_of_memory e))
 
 pub field_lists-loop-after-preserved : goal.field_lists-loop-after-preserved
 field_lists-loop-after-preserved t c = (rw c.in_ok-push.ensures.items (fielding_more c.args.setting.left c.args.setting.end _ _ _ _ _ _ _ c.loop-after.invariant.0 c.in_default.ensures.mark c.in_ok-fields.ensures.whole c.in-Some-behind_mark.ensures.mark.1), omega (arith, c.loop-after.invariant.1, c.in-Some-behind_mark.ensures.shorter, c.in_ok-fields.ensures.shorter))

@@ -1,4 +1,4 @@
-use Rattle.op_parse_code.specs.Form.{gives_by_equal, gives_by_assign}
+use Rattle.op_parse_decl.specs.Form.{gives_by_equal, gives_by_assign}
 use Rattle.op_parse_decl.proofs.form.gives_value.Goals as goal
 
 pub returns-in-Some : goal.returns-in-Some

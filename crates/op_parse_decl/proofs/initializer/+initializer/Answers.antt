@@ -1,9 +1,9 @@
 use Rattle.std.proofs.Common.{suc, length, sym, ap, ◌∙◌, arith}
 use Rattle.op_parse_code.proofs.Errors.{passed, ok_weaker, err_weaker, made_ok, made_err}
-use Rattle.op_parse_code.proofs.Lists.{listed_item_by, listed_close_by, listed_more_by, listed_ends}
+use Rattle.op_parse_code.proofs.Lists.{listed_item, listed_close, listed_more, listed_ends}
 use Rattle.op_parse_code.proofs.Names.{empty_not}
 use Rattle.op_parse_code.specs.Refusal.{out_of_memory}
-use Rattle.op_parse_decl.proofs.Combining.{refuses_part}
+use Rattle.op_parse_decl.proofs.Refusals.{as_value}
 use Rattle.op_parse_decl.proofs.InitialLists.{was_made, not_made, one_more, initial_before, items_listed, items_refuse, items_go_on, more_close, more_colon, more_ends, more_goes_on, more_name, more_value, record_value_refuses, record_more_refuses, record_goes_on, record_behind_whole}
 use Rattle.op_parse_decl.proofs.Initials.{initial_none, initial_too_deep, initial_whole, initial_refuses, room_at_top, room_in_bracket, room_left, value_refuses, expression_whole, bracket_too_deep, inside_refuses, bracket_whole, bracket_refuses, no_record, record_too_deep, record_whole, record_refuses, no_comma_refuses, list_too_deep, item_refuses, list_whole, list_refuses}
 use Rattle.op_tree.specs.Ends.{begins_expression}
@@ -17,7 +17,7 @@ pub read_initial-returns-then-not-begins_expression-clause-refused : goal.read_i
 read_initial-returns-then-not-begins_expression-clause-refused t c = initial_none c.args.setting.left c.args.setting.end _ _ (rw c.in-Some.ensures.cases.0 (sym c.begins_expression.ensures ∙ c.if-not-begins_expression.true)) c.syntax-then-not-begins_expression.ensures
 
 pub read_initial-returns-in_err-left-clause-refused : goal.read_initial-returns-in_err-left-clause-refused
-read_initial-returns-in_err-left-clause-refused t c = passed c.from_residual.result c.from_residual.ensures.1 (λ y e. rw e (initial_too_deep c.args.setting.left c.args.setting.end _ _ c.in_err-left.ensures.refused.0 c.in_err-left.ensures.refused.1))
+read_initial-returns-in_err-left-clause-refused t c = passed c.from_residual.result c.from_residual.ensures.1 (λ y e. rw (e, c.in-Some.ensures.cases.0) (initial_too_deep c.args.setting.left c.args.setting.end _ _ _ _ (sym c.begins_expression.ensures ∙ c.if-not-begins_expression.false) c.in_err-left.ensures.refused.0 (rw c.in-Some.ensures.cases.0 at c.in_err-left.ensures.refused.1)))
 
 pub read_initial-returns-clause-whole : goal.read_initial-returns-clause-whole
 read_initial-returns-clause-whole t c = ok_weaker c.in_brackets.result c.in_brackets.ensures.whole (λ f h. initial_whole c.args.setting.left _ _ _ _ c.in_ok-left.ensures.inside (h 0 (room_at_top c.args.setting.left _ (terminals c.args.tokens.now) c.in_ok-left.ensures.inside)))
@@ -83,13 +83,13 @@ pub list_or_record-returns-in_ok-fits-in-None-clause-shorter : goal.list_or_reco
 list_or_record-returns-in_ok-fits-in-None-clause-shorter t c = made_ok c.items-read.result c.list.result c.list.ensures c.items-read.ensures.shorter (λ behind rest h made. rw made.1 (omega (arith, h, c.in_ok-after-in-None.ensures.shorter)))
 
 pub items-returns-in_err-behind-clause-refused : goal.items-returns-in_err-behind-clause-refused
-items-returns-in_err-behind-clause-refused t c = passed c.from_residual.result c.from_residual.ensures.1 (λ y e. rw e (not_made _ _ _ c.in_err-behind.ensures c.read_initial-read.ensures.refused out_of_memory (λ h. items_refuse c.args.setting.left c.args.setting.end _ _ (listed_item_by items_listed c.args.setting.left c.args.setting.end _ _ _ _ (λ q x. tt) c.loop-behind.invariant.2 h))))
+items-returns-in_err-behind-clause-refused t c = passed c.from_residual.result c.from_residual.ensures.1 (λ y e. rw e (not_made _ _ _ c.in_err-behind.ensures c.read_initial-read.ensures.refused out_of_memory (λ h. items_refuse c.args.setting.left c.args.setting.end _ _ (listed_item items_listed c.args.setting.left c.args.setting.end _ _ _ _ c.loop-behind.invariant.2 h))))
 
 pub items-loop-behind-preserved : goal.items-loop-behind-preserved
 items-loop-behind-preserved t c =
     let i = c.loop-behind.invariant in
     let w = was_made _ _ c.in_ok-behind.ensures c.read_initial-read.ensures.whole c.read_initial-read.ensures.shorter in
-    (_, one_more _ _ _ i.0 _ w.3.0 i.1, listed_more_by items_listed c.args.setting.left c.args.setting.end _ _ _ _ _ _ _ (λ g q x. tt) i.2 w.1 (ap terminals (sym w.3.1) ∙ c.in-Some.ensures.mark.1), omega (arith, i.3, c.in-Some.ensures.shorter, w.2, ap length w.3.1))
+    (_, one_more _ _ _ i.0 _ w.3.0 i.1, listed_more items_listed c.args.setting.left c.args.setting.end _ _ _ _ _ _ _ i.2 w.1 (ap terminals (sym w.3.1) ∙ c.in-Some.ensures.mark.1), omega (arith, i.3, c.in-Some.ensures.shorter, w.2, ap length w.3.1))
 
 pub items-loop-behind-smaller : goal.items-loop-behind-smaller
 items-loop-behind-smaller t c =
@@ -99,7 +99,7 @@ items-loop-behind-smaller t c =
 pub items-returns-in_err-rest-in-None-clause-refused : goal.items-returns-in_err-rest-in-None-clause-refused
 items-returns-in_err-rest-in-None-clause-refused t c =
     let w = was_made _ _ c.in_ok-behind.ensures c.read_initial-read.ensures.whole c.read_initial-read.ensures.shorter in
-    passed c.from_residual-in_err-rest-in-None.result c.from_residual-in_err-rest-in-None.ensures.1 (λ y e. rw e (items_refuse c.args.setting.left c.args.setting.end _ _ (listed_close_by items_listed c.args.setting.left c.args.setting.end _ _ _ _ _ _ (λ q x. tt) c.loop-behind.invariant.2 (initial_before (ap terminals w.3.1) w.1) c.in-None.ensures.mark (refuses_part (c.in_err-rest-in-None.ensures.refused _)))))
+    passed c.from_residual-in_err-rest-in-None.result c.from_residual-in_err-rest-in-None.ensures.1 (λ y e. rw e (items_refuse c.args.setting.left c.args.setting.end _ _ (listed_close items_listed c.args.setting.left c.args.setting.end _ _ _ _ _ _ c.loop-behind.invariant.2 (initial_before (ap terminals w.3.1) w.1) c.in-None.ensures.mark (as_value (c.in_err-rest-in-None.ensures.refused _)))))
 
 pub items-returns-in_err-stop_expression-in-None-clause-refused : goal.items-returns-in_err-stop_expression-in-None-clause-refused
 items-returns-in_err-stop_expression-in-None-clause-refused t c =

@@ -1,8 +1,9 @@
 use Rattle.std.proofs.Common.{◌≡◌, ◌+◌, ◌*◌, ◌≤◌, ◌<◌, ◌++◌, List, length}
 use Rattle.op_parse_code.proofs.Lists.{ReadingBy}
+use Rattle.op_parse_code.specs.Refusal.{Alive}
 use Rattle.op_parse_decl.proofs.InitialLists.{add_field, add_item}
 use Rattle.op_parse_decl.specs.Initials.{FieldsBehind, InitialsBefore}
-use Rattle.op_parse_decl.specs.Refusal.{DecidesInPart, Untold}
+use Rattle.op_parse_decl.specs.Refusal.{DecidesInPart}
 use Rattle.op_parse_decl.specs.Types.{SomeInitial}
 use Rattle.op_tree.specs.Initial.{initial_of}
 use Rattle.op_tree.specs.Terminal.{Terminal, terminals}
@@ -26,13 +27,13 @@ abbrev pub decreases-fields : goal.decreases-fields
 decreases-fields l = 8 * length l.tokens.now + 2
 
 abbrev pub invariant-items-loop-behind : goal.invariant-items-loop-behind
-invariant-items-loop-behind l = (read : List Initializer) × (l.items.items ≡ l.fn.items.items ++ read) × ReadingBy DecidesInPart Untold add_item InitialsBefore l.fn.setting.left l.fn.setting.end (terminals l.fn.tokens) read (terminals l.rest) × (length l.rest ≤ length l.fn.tokens)
+invariant-items-loop-behind l = (read : List Initializer) × (l.items.items ≡ l.fn.items.items ++ read) × ReadingBy DecidesInPart (Alive InitialsBefore) add_item InitialsBefore l.fn.setting.left l.fn.setting.end (terminals l.fn.tokens) read (terminals l.rest) × (length l.rest ≤ length l.fn.tokens)
 
 abbrev pub decreases-items-loop-behind : goal.decreases-items-loop-behind
 decreases-items-loop-behind l = length l.rest
 
 abbrev pub invariant-fields-loop-after : goal.invariant-fields-loop-after
-invariant-fields-loop-after l = (all : List Terminal) × (read : List FieldInitializer) × SomeInitial l.fn.setting.left (initial_of l.tree) (terminals l.fn.tokens) all × (l.others.items ≡ l.fn.others.items ++ read) × ReadingBy DecidesInPart Untold add_field FieldsBehind l.fn.setting.left l.fn.setting.end all read (terminals l.rest) × (length l.rest < length l.fn.tokens)
+invariant-fields-loop-after l = (all : List Terminal) × (read : List FieldInitializer) × SomeInitial l.fn.setting.left (initial_of l.tree) (terminals l.fn.tokens) all × (l.others.items ≡ l.fn.others.items ++ read) × ReadingBy DecidesInPart (Alive FieldsBehind) add_field FieldsBehind l.fn.setting.left l.fn.setting.end all read (terminals l.rest) × (length l.rest < length l.fn.tokens)
 
 abbrev pub decreases-fields-loop-after : goal.decreases-fields-loop-after
 decreases-fields-loop-after l = length l.rest

@@ -6,7 +6,7 @@ pub returns-in_err-rest-clause-refused : goal.returns-in_err-rest-clause-refused
 returns-in_err-rest-clause-refused c = passed c.from_residual.result c.from_residual.ensures.1 (λ y e. rw e (brackets_missing c.args.setting.left c.args.setting.end _ _ (c.in_err-rest.ensures.refused _)))
 
 pub returns-in_err-enter-clause-refused : goal.returns-in_err-enter-clause-refused
-returns-in_err-enter-clause-refused c = passed c.from_residual-in_err-enter.result c.from_residual-in_err-enter.ensures.1 (λ y e. rw e (brackets_too_deep c.args.setting.left c.args.setting.end _ _ c.in_err-enter.ensures.refused.0 c.in_err-enter.ensures.refused.1))
+returns-in_err-enter-clause-refused c = passed c.from_residual-in_err-enter.result c.from_residual-in_err-enter.ensures.1 (λ y e. rw e (brackets_too_deep c.args.setting.left c.args.setting.end _ _ _ _ c.in_ok-rest.ensures.mark.1 c.in_err-enter.ensures.refused.0 c.in_err-enter.ensures.refused.1))
 
 pub returns-in_err-names-clause-refused : goal.returns-in_err-names-clause-refused
 returns-in_err-names-clause-refused c = passed c.from_residual-in_err-names.result c.from_residual-in_err-names.ensures.1 (λ y e. rw e (brackets_names c.args.setting.left _ c.args.setting.end _ _ _ _ c.in_ok-rest.ensures.mark.1 c.in_ok-enter.ensures.inside (c.in_err-names.ensures.refused _)))

@@ -1,4 +1,4 @@
-use Rattle.op_rt_text.proofs.ExampleRuns.{blanks_in_pieces, bytes_copied, bytes_padded, greatest_at_width, least_padded, low_bits_of_char, negative_width, no_blanks, truth_of_number, truth_padded, value_taken, words_copied, zero_alone}
+use Rattle.op_rt_text.proofs.ExampleRuns.{blanks_in_pieces, bytes_copied, bytes_padded, greatest_at_width, least_padded, low_bits_of_char, negative_width, no_blanks, truth_of_number, truth_padded, value_taken, word_cleared, words_copied, zero_alone}
 use Rattle.op_rt_text.proofs.theorems.examples_run.Goals as goal
 
 pub returns : goal.returns
@@ -16,5 +16,6 @@ returns c =
       no_blanks = no_blanks;
       bytes_copied = bytes_copied;
       words_copied = words_copied;
+      word_cleared = word_cleared;
       value_taken = value_taken;
     }

@@ -1,5 +1,5 @@
 use Rattle.std.proofs.Common.{◌∷◌, refl, arith}
-use Rattle.op_scan.proofs.Lists.{nil_of_length}
+use Rattle.std.proofs.lemmas.List.{nil_from_length}
 use Rattle.op_scan.proofs.Nesting.{means_at}
 use Rattle.op_scan.proofs.Outer.{passes_byte, opens_comment, closes_inner, closes_last, never_closes}
 use Rattle.op_scan.proofs.comment.after_comment.Goals as goal
@@ -30,8 +30,8 @@ returns-in-None c =
     let l = c.loop-byte in
     let s = c.in-Some in
     let closed = means_at l.marks l.rest.now s.byte.now s.after.now _ s.ensures.cases.0 c.in-Closes.ensures in
-    let empty = nil_of_length l.outer.items (omega (arith, l.outer.ok.0, c.in-None.ensures.cases.0)) in
+    let empty = nil_from_length l.outer.items (omega (arith, l.outer.ok.0, c.in-None.ensures.cases.0)) in
     rw (c.split_at-in-Closes.ensures.back, c.mark_length-in-Closes.ensures) (closes_last _ _ _ _ _ l.invariant _ empty closed)
 
 pub returns : goal.returns
-returns c = never_closes _ _ _ _ _ c.loop-byte.invariant (nil_of_length c.loop-byte.rest.now c.in_default.ensures.cases)
+returns c = never_closes _ _ _ _ _ c.loop-byte.invariant (nil_from_length c.loop-byte.rest.now c.in_default.ensures.cases)

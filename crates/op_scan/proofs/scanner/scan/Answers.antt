@@ -1,8 +1,7 @@
 use Rattle.std.proofs.Common.{◌≡◌, ◌≢◌, ◌+◌, ◌-◌, ◌^◌, ◌<◌, ◌≤◌, [], length, drop, sym, ap, ◌∙◌, arith}
 use Rattle.std.proofs.lemmas.Bool.{eqb-true, eqb-false}
-use Rattle.std.proofs.lemmas.List.{length-drop}
+use Rattle.std.proofs.lemmas.List.{length-drop, nil_from_length}
 use Rattle.op_scan.specs.Scan.{mark_length}
-use Rattle.op_scan.proofs.Lists.{nil_of_length}
 use Rattle.op_scan.proofs.Scanning.{scan_begins, front_within, front_moves, scan_bounds, scan_passes, scan_gives, scan_breaks, scan_ends, only_answer, passes≢breaks, gives≢breaks}
 use Rattle.op_scan.proofs.Told.{told_scans}
 use Rattle.op_scan.proofs.scanner.scan.Goals as goal
@@ -65,11 +64,11 @@ loop-rest-preserved c =
 pub returns-clause-answer : goal.returns-clause-answer
 returns-clause-answer c =
     let l = c.loop-rest in
-    let empty = nil_of_length l.rest.now (eqb-true (length l.rest.now) 0 (sym c.loop-rest-test.ensures)) in
+    let empty = nil_from_length l.rest.now (eqb-true (length l.rest.now) 0 (sym c.loop-rest-test.ensures)) in
     rw c.from.ensures (scan_ends _ _ _ _ _ _ _ _ l.invariant empty)
 
 pub returns-clause-only : goal.returns-clause-only
 returns-clause-only c =
     let l = c.loop-rest in
-    let empty = nil_of_length l.rest.now (eqb-true (length l.rest.now) 0 (sym c.loop-rest-test.ensures)) in
+    let empty = nil_from_length l.rest.now (eqb-true (length l.rest.now) 0 (sym c.loop-rest-test.ensures)) in
     only_answer c.args.file c.args.bytes.now _ (rw c.from.ensures (scan_ends _ _ _ _ _ _ _ _ l.invariant empty))

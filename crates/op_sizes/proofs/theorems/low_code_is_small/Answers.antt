@@ -7,7 +7,7 @@ pub returns : goal.returns
 returns c = record {
   lengths = lengths_covered;
   instructions = instructions_light;
-  routines = λ core mir stack r id routine is counted written. routine_light core stack r counted written mir id routine is;
-  program = program_light;
+  routines = λ core mir texts stack r routine is counted written. routine_light core stack r counted written mir texts routine is;
+  program = λ core mir texts r routine is. program_light core mir r texts routine is;
   images = λ core mir stack settings better lowers sound owners counted written optimizes. image_less core mir lowers sound owners counted written stack settings better optimizes;
 }

@@ -1,9 +1,10 @@
 use Rattle.std.proofs.Common.{map}
 use Rattle.std.proofs.lemmas.Result.{err_from_is_err_and}
 use Rattle.op_accepted.proofs.Accepted.{accepted_is_fit}
+use Rattle.op_base.proofs.Tests.{map_ok}
 use Rattle.op_tree.specs.File.{file_of}
 use Rattle.op_tool.proofs.Orders.{few_units}
-use Rattle.op_tool.proofs.Compiling.{err_also, fails_as, made_of, not_compiled_by, ok_also}
+use Rattle.op_tool.proofs.Compiling.{err_also, fails_as, made_of, not_compiled_by}
 use Rattle.op_tool.proofs.Told.{compile_told}
 use Rattle.op_tool.proofs.compiler.compile.Goals as goal
 
@@ -24,7 +25,7 @@ returns-in_err-core-clause-failed g c =
 
 pub returns-clause-made : goal.returns-clause-made
 returns-clause-made g c =
-    ok_also c.image_of.result (λ image is. made_of (g.F.Files.stored c.args.files.now) c.args.main.now c.args.settings.now c.in_ok-core.core image.items c.in_ok-core.ensures.made is) c.image_of.ensures.made
+    map_ok c.image_of.result (λ image is. made_of (g.F.Files.stored c.args.files.now) c.args.main.now c.args.settings.now c.in_ok-core.core image.items c.in_ok-core.ensures.made is) c.image_of.ensures.made
 
 pub returns-clause-failed : goal.returns-clause-failed
 returns-clause-failed g c =

@@ -18,12 +18,12 @@ returns-in-Ok-Found-clause-says g c words =
 pub returns-in-Ok-Long-clause-says : goal.returns-in-Ok-Long-clause-says
 returns-in-Ok-Long-clause-says g c words =
     let answers = subst (Answers (g.F.Files.stored c.args.files.now) c.args.command.now.operand.now 100663296 (g.F.Files.faults c.args.files.now) (g.F.Files.faults c.read.new.self)) c.in-Ok-Long.field-0-is c.in-Ok-Long.ensures.answers in
-    says_bad_image _ 1 c.report_bad_image.result _ _ _ _ _ _ _ _ _ (λ done only. inl (c.requires, answers, refl, only)) (λ done only. only) c.report_bad_image.ensures.says
+    says_bad_image _ 1 c.report_bad_image.result _ _ _ _ _ _ _ _ _ (λ done only. inl (c.requires, answers, refl, only)) (λ done only. (inl c.requires, only)) c.report_bad_image.ensures.says
 
 pub returns-in-Ok-Missing-clause-says : goal.returns-in-Ok-Missing-clause-says
 returns-in-Ok-Missing-clause-says g c words =
     let answers = subst (Answers (g.F.Files.stored c.args.files.now) c.args.command.now.operand.now 100663296 (g.F.Files.faults c.args.files.now) (g.F.Files.faults c.read.new.self)) c.in-Ok-Missing.field-0-is c.in-Ok-Missing.ensures.answers in
-    says_refused _ c.args.command.now.operand.now c.as_bytes.result.now _ c.report_refusal.result _ _ _ _ _ _ _ _ _ c.as_bytes.ensures.value (λ done only. (c.requires, refl, refl, answers, only)) (λ done only. only) c.report_refusal.ensures.says
+    says_refused _ c.args.command.now.operand.now c.as_bytes.result.now _ c.report_refusal.result _ _ _ _ _ _ _ _ _ c.as_bytes.ensures.value (λ done only. (c.requires, refl, refl, answers, only)) (λ done only. (inl c.requires, only)) c.report_refusal.ensures.says
 
 pub returns-in-Ok-Failed-clause-says : goal.returns-in-Ok-Failed-clause-says
 returns-in-Ok-Failed-clause-says g c words =
@@ -32,7 +32,7 @@ returns-in-Ok-Failed-clause-says g c words =
 
 pub returns-in-Err-clause-says : goal.returns-in-Err-clause-says
 returns-in-Err-clause-says g c words =
-    says_no_memory _ c.report_no_memory.result _ _ _ _ _ _ _ _ _ (λ done only. only) c.report_no_memory.ensures.says
+    says_no_memory _ c.report_no_memory.result _ _ _ _ _ _ _ _ _ (λ done only. (inl c.requires, only)) c.report_no_memory.ensures.says
 
 pub report_refusal-requires : goal.report_refusal-requires
 report_refusal-requires g c = missing_told

@@ -1,7 +1,8 @@
 use Rattle.std.proofs.Common.{◌≤◌, arith, refl, sym, ap, subst, ◌∙◌, Ok, Err}
+use Rattle.op_base.proofs.Tests.{rose_since}
 use Rattle.op_core.specs.Faults.{broken}
 use Rattle.op_units.specs.Walk.{Visits, walked_of}
-use Rattle.op_units.proofs.Loading.{handed_on, none_left, refused_by, rose_since, use_in}
+use Rattle.op_units.proofs.Loading.{handed_on, none_left, refused_by, use_in}
 use Rattle.op_units.proofs.Walking.{Completes, closed, goes_on_in, put_in_order, stopped}
 use Rattle.op_units.proofs.loader.visit_all.Goals as goal
 use Rattle.op_units.proofs.loader.visit_all.Goals.{in-Some-pop_front+in_ok-inner-in-Some-pop_front+in_ok-put-in-Some-pop_front, in-None+in-None-closing+in_ok-place-in-None-closing}

@@ -1,5 +1,6 @@
 use Rattle.std.proofs.Common.{◌≡◌, ◌+◌, false, [], Some, None, IfOk, drop, map, refl, sym, ap, subst, ◌∙◌}
 use Rattle.std.specs.Option.{option_map}
+use Rattle.op_base.proofs.Tests.{map_ok}
 use Rattle.op_core.specs.Expression as typed
 use Rattle.op_tree.proofs.Rows.{call_says, chain_says, designated_says, index_says, literal_says, set_says}
 use Rattle.op_tree.specs.Expression.{arguments, argument_of, call, element_of, expr_of, index, literal, no_arguments, prefixed, root_of, selector_of}
@@ -17,7 +18,7 @@ use Rattle.op_check_expr.specs.Naming.{denoted_of, valued}
 use Rattle.op_check_expr.specs.Operating.{operation_of, used}
 use Rattle.op_check_expr.specs.Scopes.{here_of}
 use Rattle.op_check_expr.specs.Values.{in_brackets, value_of}
-use Rattle.op_types.proofs.Folding.{map_ok, one_given}
+use Rattle.op_types.proofs.Folding.{one_given}
 use Rattle.op_check_expr.proofs.scope.Checker.+walk.Goals as goal
 
 -- ---- arms

@@ -1,9 +1,10 @@
 use Rattle.std.proofs.Common.{◌≡◌, ◌%◌, ◌∙◌, ap, sym, arith, refl}
+use Rattle.op_rv.proofs.Environment.{environment_call-exit, environment_call-read, environment_call-write}
 use Rattle.op_rv.specs.declared.fault.FaultKind.TheVariants.{Call}
 use Rattle.op_rv.specs.State.{Running, Ended}
 use Rattle.op_rv.specs.Environment.{environment_call, read_call, write_call, exit_call}
 use Rattle.op_emu.specs.Acts.{moment, state_of}
-use Rattle.op_emu.proofs.ActsLemmas.{StepIs-same, Acts-fault, environment_call-read, environment_call-write, environment_call-exit, environment_call-other, Acts-quiet}
+use Rattle.op_emu.proofs.ActsLemmas.{StepIs-same, Acts-fault, environment_call-other, Acts-quiet}
 use Rattle.op_emu.proofs.hart.Hart.call.Goals as goal
 
 pub returns-in-63-clause-acts : goal.returns-in-63-clause-acts

@@ -1,10 +1,11 @@
 use Rattle.std.proofs.Common.{◌≡◌, ◌-◌, ◌+◌, ◌++◌, [], ◌∙◌, sym, ap, subst, arith, refl, length}
 use Rattle.std.proofs.lemmas.List.{append-nil, append_assoc}
+use Rattle.op_base.proofs.Tests.{rose_since}
 use Rattle.op_base.specs.Outside.{appended, AppendsFront}
 use Rattle.op_rv.specs.State.{bytes_from}
 use Rattle.op_emu.specs.Region.{byte_in}
 use Rattle.op_emu.specs.Segments.{regions_of}
-use Rattle.op_emu.proofs.Stretches.{all_from-rest, bytes_from-none, bytes_from-rest, appended-append, appended-nil, AppendsFront-after, AppendsFront-longer, Rose-from, front_is_some}
+use Rattle.op_emu.proofs.Stretches.{all_from-rest, bytes_from-none, bytes_from-rest, appended-append, appended-nil, AppendsFront-after, AppendsFront-longer, front_is_some}
 use Rattle.op_emu.proofs.memory.Memory.put.Goals as goal
 
 pub loop-left-init : goal.loop-left-init
@@ -24,7 +25,7 @@ returns-in-Failed-clause-counts g c =
 
 pub returns-in-Failed-clause-failed : goal.returns-in-Failed-clause-failed
 returns-in-Failed-clause-failed g c =
-    λ failed. Rose-from _ _ _ c.loop-left.invariant.counts (c.in-Failed.ensures.failed failed)
+    λ failed. rose_since _ _ _ c.loop-left.invariant.counts (c.in-Failed.ensures.failed failed)
 
 pub returns-in-Failed-clause-front : goal.returns-in-Failed-clause-front
 returns-in-Failed-clause-front g c =

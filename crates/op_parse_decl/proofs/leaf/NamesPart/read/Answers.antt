@@ -1,5 +1,5 @@
 use Rattle.op_parse_code.proofs.Errors.{passed}
-use Rattle.op_parse_decl.proofs.Combining.{refuses_part}
+use Rattle.op_parse_decl.proofs.Refusals.{refuses_part}
 use Rattle.op_parse_decl.proofs.leaf.NamesPart.read.Goals as goal
 
 pub returns-in_err-names-clause-refused : goal.returns-in_err-names-clause-refused

@@ -1,6 +1,5 @@
 use Rattle.op_parse_code.proofs.Errors.{err_weaker}
-use Rattle.op_parse_decl.proofs.Combining.{refuses_part}
 use Rattle.op_parse_decl.proofs.leaf.TypeDenoterPart.read.Goals as goal
 
 pub returns-clause-refused : goal.returns-clause-refused
-returns-clause-refused c = err_weaker c.denoter.result c.denoter.ensures.refused (λ e h. refuses_part h)
+returns-clause-refused c = err_weaker c.denoter.result c.denoter.ensures.refused (λ e h. h)

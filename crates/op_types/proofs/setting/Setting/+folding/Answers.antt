@@ -1,10 +1,11 @@
 use Rattle.std.proofs.Common.{◌≡◌, ◌+◌, false, IfOk, Some, drop, refl, sym, ap, subst, ◌∙◌, arith}
+use Rattle.op_base.proofs.Tests.{map_ok}
 use Rattle.op_tree.proofs.Rows.{call_says, chain_says, designated_says, literal_says, set_says}
 use Rattle.op_tree.specs.Expression.{call, chain, designator, element_of, expr_of, literal, member, named, no_selectors, selector_of, selectors}
 use Rattle.op_tree.specs.Lists.{arguments_of, operations_of}
 use Rattle.op_tree.specs.Statement.{elements_of, selectors_of}
 use Rattle.op_judgement.specs.Judgement.{Reports, fine, with_part}
-use Rattle.op_types.proofs.Folding.{Completes, begins, chained, ends, gathers, goes_on, literal_finds, map_ok, next_of, next_operation, no_element, no_operand, not_folded, one_given, standing, members_begin, stops}
+use Rattle.op_types.proofs.Folding.{Completes, begins, chained, ends, gathers, goes_on, literal_finds, next_of, next_operation, no_element, no_operand, not_folded, one_given, standing, members_begin, stops}
 use Rattle.op_types.specs.ConstantParts.{literal_means, no_members, start_of, type_named, use_of}
 use Rattle.op_types.specs.Folding.{Finds, are_constant_elements, are_constant_operands, argument_means, call_means, constant, designated_constant, element, gathered_means, in_brackets, is_constant, is_constant_argument, is_constant_call, is_constant_designator, is_constant_element, members, operations}
 use Rattle.op_types.specs.Names.{lower, meaning_of}

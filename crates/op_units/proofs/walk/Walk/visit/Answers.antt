@@ -3,7 +3,7 @@ use Rattle.op_base.specs.FileAnswer.{Answers}
 use Rattle.op_base.specs.declared.files.FileAnswer.TheVariants.{Found, Long, Missing}
 use Rattle.op_units.specs.Cycles.{EnterIs, RefusesBy, TooLargeIs}
 use Rattle.op_units.specs.Names.{file_of_unit, is_sysutils}
-use Rattle.op_units.specs.Walk.{UseBreaks, UseIs, is_unbuilt, walked_of}
+use Rattle.op_units.specs.Walk.{UseBreaks, UseIs, is_known, is_unbuilt, walked_of}
 use Rattle.op_units.proofs.Entering.{answered, is_new_by, is_passed_on, missing, not_opened, too_large, too_many, use_refused}
 use Rattle.op_units.proofs.walk.Walk.visit.Goals as goal
 
@@ -16,7 +16,8 @@ returns-then-is_sysutils-clause-comes g c =
     let used = c.args.unit in
     let w = walked_of c.args.self.now in
     let named = ap is_sysutils (sym c.as_slice-name.ensures) ∙ sym c.is_sysutils.ensures ∙ c.if-is_sysutils.true in
-    use_refused stored folder file used w w before before c.broken.result file c.refused.result (subst (λ r. UseBreaks stored folder w file used r file) (sym c.broken.ensures) (is_unbuilt named)) c.refused.ensures
+    let unknown = ap (λ n. is_known w n) (sym c.as_slice-name.ensures) ∙ sym c.contains.ensures ∙ c.if-contains.false in
+    use_refused stored folder file used w w before before c.broken.result file c.refused.result (subst (λ r. UseBreaks stored folder w file used r file) (sym c.broken.ensures) (is_unbuilt unknown named)) c.refused.ensures
 
 pub returns-then-len-ge-MOST_UNITS-clause-comes : goal.returns-then-len-ge-MOST_UNITS-clause-comes
 returns-then-len-ge-MOST_UNITS-clause-comes g c =
