@@ -1,12 +1,13 @@
 //! The image of a program in managed code.
 ghost use Rattle.std.specs.Prelude.{◌≡◌, IfErr, IfOk, IsTrue};
 ghost use Rattle.op_build.specs.Built.{IsBuilt, IsLowCode, IsNotBuilt};
+ghost use Rattle.op_constants.specs.Literals.{literals_of};
 ghost use Rattle.op_core.specs.declared.program.Core.{Core};
 ghost use Rattle.op_mir.specs.declared.code.Mir.{Mir};
 ghost use Rattle.op_link.specs.Memory.{are_in_range};
 
 use op_base::NoMemory;
-use op_constants::literals_of;
+use op_constants::{Texts, literals_of};
 use op_core::Core;
 use op_expand::expand;
 use op_image::buildable;
@@ -16,6 +17,9 @@ use op_low::Low;
 use op_mir::Mir;
 use op_optimize::optimize;
 use std::alloc::Global;
+
+/// The most bytes that code, constants and initial globals may take.
+const MOST_LINKED: usize = 67_108_864;
 
 /// Why managed code has no image.
 #[derive(Drop)]
@@ -44,18 +48,19 @@ struct LowCode {
     layout: Layout,
 }
 
-/// Constants and low code are made of managed code, which is freed routine by routine, and of its tables, which are freed then. The low code is
-/// used up as better low code is made of it.
+/// Constants and low code are made of managed code with its literals, which is freed routine by routine, and of its tables, which are freed then.
+/// The low code is used up as better low code is made of it.
 fn low_code_of(
     alloc: Global,
     core: Core,
     mir: Mir,
+    literals: Texts,
     settings: &Settings,
 ) -> Result<LowCode, NoMemory>
+    requires literals { literals ≡ literals_of core mir }
     requires settings { IsTrue (are_in_range settings.now) }
     ensures { IfOk result (λ code. IsLowCode core mir settings.now code.low code.layout) }
 {
-    let literals = literals_of(alloc, &core, &mir)?;
     let expanded = expand(alloc, &core, mir, 1024 * settings.stack, &literals)?;
     let low = optimize(alloc, expanded)?;
     let layout = literals.layout(alloc)?;
@@ -80,8 +85,9 @@ fn image_of(alloc: Global, code: LowCode, settings: &Settings) -> Result<Vec<u8>
 
 /// The image of a program in managed code, beside its tables, with a heap and a stack as the settings say.
 ///
-/// `Limit` comes only where code, constants and initial globals take more than 67,108,864 bytes, `Unbuildable` only where the better
-/// low code of the program names what does not exist or its globals take too much room, and `NoMemory` only where the allocator has no room.
+/// `Limit` comes only where code, constants and initial globals take more than 67,108,864 bytes, and comes before any code is made where the
+/// constants alone do. `Unbuildable` comes only where the better low code of the program names what does not exist or its globals take too much
+/// room, and `NoMemory` only where the allocator has no room.
 pub fn build(
     alloc: Global,
     core: Core,
@@ -92,6 +98,10 @@ pub fn build(
     ensures made { IfOk result (λ image. IsBuilt core mir settings.now image.items) }
     ensures failed { IfErr result (IsNotBuilt core mir settings.now) }
 {
-    let code = low_code_of(alloc, core, mir, settings)?;
+    let literals = literals_of(alloc, &core, &mir)?;
+    if !literals.is_within(MOST_LINKED) {
+        return Err(BuildError::Limit);
+    }
+    let code = low_code_of(alloc, core, mir, literals, settings)?;
     image_of(alloc, code, settings)
 }

@@ -15,7 +15,6 @@ use op_core::{
     Const, Conversion, Core, CoreExpr, CoreType, FirstRefusal, TypeId, one_type, range_of, type_at,
 };
 use op_judgement::{LanguageRule, refuse};
-use op_scan::CompactText;
 use op_types::{Constant, Sort, assignable, bytes_of, in_range, sort_of};
 use std::alloc::Global;
 
@@ -106,10 +105,7 @@ pub fn retyped(
 {
     match (sort_of(core, to), value) {
         (Sort::Ordinal(_), Const::Ordinal(n)) => Ok(in_range(core, to, *n as i64)),
-        (Sort::String, _) => {
-            let bytes = bytes_of(alloc, value)?;
-            Ok(Some(Const::Text(CompactText::copy_of(alloc, bytes.as_slice())?)))
-        }
+        (Sort::String, _) => Ok(Some(Const::Text(bytes_of(alloc, value)?))),
         (Sort::Set(_), Const::Set(members)) => {
             if are_in(core, base_of(core, to), members.as_slice()) {
                 let members = Vec::from_slice(alloc, members.as_slice())?;

@@ -11,6 +11,7 @@ pub mod Reaching
 pub mod Sets
 pub mod SoundFirst
 pub mod Stores
+pub mod Sums
 pub mod TypesArranged
 pub mod Units
 pub mod Zeros

@@ -1,5 +1,5 @@
 //! Texts of which each is kept once.
-ghost use Rattle.std.specs.Prelude.{◌≡◌, [], IfOk, length};
+ghost use Rattle.std.specs.Prelude.{◌≡◌, [], IfOk, length, nat_le};
 ghost use Rattle.op_constants.specs.Keeping.{with_text};
 ghost use Rattle.op_constants.specs.Texts.{number_of};
 ghost use Rattle.op_layout.specs.Places.{layout_of};
@@ -56,6 +56,20 @@ impl Texts {
         ensures { result ≡ number_of self.now text.now }
     {
         self.texts.get_index_of(text).unwrap_or(self.texts.len())
+    }
+
+    /// Whether the constants that have these as their literals take at most so many bytes.
+    pub fn is_within(&self, most: usize) -> bool
+        ensures { result ≡ nat_le (length (layout_of self.now).bytes) most }
+    {
+        let mut room = most;
+        for text in self.texts.as_slice() {
+            match room.checked_sub(text.len()) {
+                None => return false,
+                Some(rest) => room = rest,
+            }
+        }
+        true
     }
 
     /// The constants that have these as their literals, and nothing else.

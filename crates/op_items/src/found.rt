@@ -8,9 +8,9 @@ ghost use Rattle.op_mir.specs.View.{view_path};
 
 use crate::path::whole_path;
 use crate::setting::Here;
-use op_base::Text;
 use op_core::TypeId;
 use op_mir::Path;
+use op_scan::CompactText;
 use std::alloc::Global;
 
 /// Where a value is.
@@ -21,7 +21,7 @@ pub enum Now {
     /// At a place.
     At(Path),
     /// It is a literal.
-    Literal(Text),
+    Literal(CompactText),
 }
 
 /// A value, and how many temporaries the indices of its path keep.

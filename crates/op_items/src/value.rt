@@ -15,7 +15,7 @@ use crate::path::{path_to, root_of, whole_path, with_step};
 use crate::set::set_of_elements;
 use crate::setting::{Here, Setting, sum};
 use crate::shape::{Shape, counted_of, field_number, high_in, low_in, shape_of};
-use op_base::{NoMemory, Text};
+use op_base::NoMemory;
 use op_core::{Const, FieldId, TypeId, VariableId};
 use op_mir::{Action, Path, Step, TemporaryId};
 
@@ -207,7 +207,7 @@ impl Setting<'_> {
                 Ok(Found::ready())
             }
             Const::Text(text) => {
-                let text = Text::copy_of(self.alloc, text.as_slice())?;
+                let text = text.share()?;
                 Ok(Found {
                     now: Now::Literal(text),
                     used: 0,

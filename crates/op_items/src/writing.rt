@@ -17,9 +17,10 @@ use crate::found::Now;
 use crate::item::Item;
 use crate::setting::{Here, Setting, next};
 use crate::shape::{host, type_of};
-use op_base::{NoMemory, Text};
+use op_base::NoMemory;
 use op_core::{CoreItem, CoreType, TypeId};
 use op_mir::{Action, TemporaryId, Writing};
+use op_scan::CompactText;
 
 /// How a value of the type is written, with the width in the next temporary.
 fn writing(of: Option<CoreType>, from: TemporaryId) -> Result<Writing, NoMemory>
@@ -104,7 +105,7 @@ impl Setting<'_> {
             return Ok(());
         }
         self.no_width(items, here)?;
-        let text = Text::copy_of(self.alloc, b"\n")?;
+        let text = CompactText::copy_of(self.alloc, b"\n")?;
         let width = here.behind(1)?;
         self.act(items, Action::WriteText { text, width })
     }

@@ -1,8 +1,8 @@
 //! Actions: what an activation does in one step between two branches. Operands and what they give are in temporaries.
 
 use crate::{LocalId, Path, TemporaryId};
-use op_base::Text;
 use op_core::{IntegerKind, TypeId};
+use op_scan::CompactText;
 use op_tree::Operator;
 
 /// On numbers and on sets, which are numbers with the bit k for each element k.
@@ -154,14 +154,14 @@ pub enum Action {
     /// A Char of a literal, by its index from 1.
     Pick {
         to: TemporaryId,
-        text: Text,
+        text: CompactText,
         index: TemporaryId,
     },
     Compute(Computation),
     Write(Writing),
     /// Writes a literal, as `Writing` says.
     WriteText {
-        text: Text,
+        text: CompactText,
         width: TemporaryId,
     },
 }

@@ -22,13 +22,13 @@ pub fn position_of(token: &Token) -> Position
     }
 }
 
-/// The letters of an identifier or a string, and none of any other token.
+/// The letters of an identifier or a string, and none of any other token. Those of a long one are shared.
 pub fn spelled(alloc: Global, kind: &TokenKind) -> Result<CompactText, NoMemory>
     ensures { IfOk result (λ text. text ≡ spelled kind.now) }
 {
     match kind {
-        TokenKind::Identifier(text) => CompactText::copy_of(alloc, text.as_slice()),
-        TokenKind::CharacterString(text) => CompactText::copy_of(alloc, text.as_slice()),
+        TokenKind::Identifier(text) => text.share(),
+        TokenKind::CharacterString(text) => text.share(),
         _ => CompactText::copy_of(alloc, b""),
     }
 }

@@ -5,11 +5,13 @@ ghost use Rattle.op_scan.specs.Compact.{content_of};
 use op_base::NoMemory;
 use std::alloc::Global;
 use std::marker::Model;
+use std::rc::Rc;
 
 /// How many bytes take no room of their own.
 const SHORT: usize = 14;
 
-/// A list of bytes that takes 16 bytes, and more only where it is longer than 14.
+/// A list of bytes that takes 16 bytes, and more only where it is longer than 14. What a longer one takes more stands once for
+/// all that share it.
 #[derive(Debug, Drop)]
 pub struct CompactText {
     content: Content,
@@ -19,7 +21,7 @@ pub struct CompactText {
 enum Content {
     /// The first bytes of these.
     Short { length: u8, bytes: [u8; 14] },
-    Long(Box<Vec<u8>>),
+    Long(Rc<Vec<u8>>),
 }
 
 impl Model for CompactText {
@@ -40,6 +42,20 @@ impl CompactText {
             short(bytes)
         } else {
             long(alloc, bytes)?
+        };
+        Ok(CompactText { content })
+    }
+
+    /// The same text once more. No long text is copied: it has one owner more.
+    pub fn share(&self) -> Result<CompactText, NoMemory>
+        ensures { IfOk result (λ t. t ≡ self.now) }
+    {
+        let content = match &self.content {
+            Content::Short { length, bytes } => Content::Short {
+                length: *length,
+                bytes: *bytes,
+            },
+            Content::Long(bytes) => Content::Long(bytes.clone()?),
         };
         Ok(CompactText { content })
     }
@@ -70,7 +86,7 @@ fn long(alloc: Global, bytes: &[u8]) -> Result<Content, NoMemory>
     ensures { IfOk result (λ content. content_of content ≡ bytes.now) }
 {
     let bytes = Vec::from_slice(alloc, bytes)?;
-    Ok(Content::Long(Box::new(alloc, bytes)?))
+    Ok(Content::Long(Rc::new(alloc, bytes)?))
 }
 
 /// The first bytes, as many of so many as there are.

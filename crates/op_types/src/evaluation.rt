@@ -167,13 +167,13 @@ fn entered(
     }
 }
 
-/// Another copy of a constant.
+/// Another copy of a constant. A long text is shared.
 pub fn copy_of(alloc: Global, value: &Const) -> Result<Const, NoMemory>
     ensures { IfOk result (λ v. v ≡ value.now) }
 {
     match value {
         Const::Ordinal(n) => Ok(Const::Ordinal(*n)),
-        Const::Text(text) => Ok(Const::Text(CompactText::copy_of(alloc, text.as_slice())?)),
+        Const::Text(text) => Ok(Const::Text(text.share()?)),
         Const::Set(members) => {
             Ok(Const::Set(Sequence::from(Vec::from_slice(alloc, members.as_slice())?)))
         }

@@ -25,8 +25,8 @@ pub fn operated(
     ensures { IfOk result (λ v. v ≡ operated operator sorts.0 sorts.1 a.now b.now) }
 {
     if sorts.0.is_text() && sorts.1.is_text() {
-        let a = bytes_of(alloc, a)?;
-        on_texts(alloc, a, operator, bytes_of(alloc, b)?.as_slice())
+        let (a, b) = (bytes_of(alloc, a)?, bytes_of(alloc, b)?);
+        on_texts(alloc, a.as_slice(), operator, b.as_slice())
     } else {
         by_values(alloc, operator, a, b)
     }
@@ -67,20 +67,20 @@ fn on_sets(alloc: Global, operator: Operator, a: &[u8], b: &[u8]) -> Result<Opti
 
 fn on_texts(
     alloc: Global,
-    a: Vec<u8>,
+    a: &[u8],
     operator: Operator,
     b: &[u8],
 ) -> Result<Option<Const>, NoMemory>
-    ensures { IfOk result (λ v. v ≡ on_texts operator a.items b.now) }
+    ensures { IfOk result (λ v. v ≡ on_texts operator a.now b.now) }
 {
     match operator {
         Operator::Add => {
-            let mut both = a;
+            let mut both = Vec::from_slice(alloc, a)?;
             both.extend_from_slice(b)?;
             text_within(alloc, both.as_slice())
         }
         _ => {
-            let (less, more) = (precedes_bytes(&a, b), precedes_bytes(b, &a));
+            let (less, more) = (precedes_bytes(a, b), precedes_bytes(b, a));
             Ok(compared_by(operator, less, more))
         }
     }
@@ -195,17 +195,17 @@ pub fn number_of(value: &Const) -> i32
     }
 }
 
-/// The bytes of a text, or the one of a Char.
-pub fn bytes_of(alloc: Global, value: &Const) -> Result<Vec<u8>, NoMemory>
-    ensures { IfOk result (λ v. v.items ≡ bytes_of value.now) }
+/// The bytes of a text, or the one of a Char. A long text is shared.
+pub fn bytes_of(alloc: Global, value: &Const) -> Result<CompactText, NoMemory>
+    ensures { IfOk result (λ v. v ≡ bytes_of value.now) }
 {
     match value {
-        Const::Text(text) => Ok(Vec::from_slice(alloc, text.as_slice())?),
+        Const::Text(text) => text.share(),
         Const::Ordinal(n) => {
             let byte = (n.cast_unsigned() % 256) as u8;
-            Ok(Vec::from_slice(alloc, &[byte])?)
+            CompactText::copy_of(alloc, &[byte])
         }
-        _ => Ok(Vec::new(alloc)),
+        _ => CompactText::copy_of(alloc, b""),
     }
 }
 
@@ -245,7 +245,7 @@ pub fn applied(
         Function::Sqr => Ok(product(n, n)),
         Function::Odd => Ok(within((n.cast_unsigned() % 2) as i64)),
         Function::UpCase => Ok(within(upper(n as i64))),
-        Function::Length => Ok(within(bytes_of(alloc, value)?.len() as i64)),
+        Function::Length => Ok(within(bytes_of(alloc, value)?.as_slice().len() as i64)),
         _ => Ok(None),
     }
 }
