@@ -122,7 +122,7 @@ module _ (g : Setting) (fit : IsFitting g) (m : MirState) (l : State) (floors : 
     -- ---- the step of managed code
 
     abbrev copied : Option Place → Option Place → MirState
-    copied o p = record m { world = at_place g.core o (λ q. at_place g.core p (λ t. with_value t (value_at m.world q) m.world) m.world) m.world; rest = rest_above g m l floors (Act (Copy of to from) landing) is next }
+    copied o p = record m { world = at_place g.core o (λ q. at_place g.core p (λ t. with_value t (value_at m.world q) m.world) m.world) m.world; work = rest_above g m l floors (Act (Copy of to from) landing) is next }
 
     -- as an equation, and that its world is plain
     copy_step : (o p : Option Place) → place_meant m.world (view_path from) ≡ o → place_meant m.world (view_path to) ≡ p → mir_step (managed g) m ≡ copied o p

@@ -112,7 +112,7 @@ module _ (g : Setting) (fit : IsFitting g) (m : MirState) (l : State) (floors : 
   with_this y = with_value (all_of (local level v.0)) y m.world
 
   abbrev begun : Value → MirState
-  begun y = record m { world = with_this y; rest = rest_above g m l floors begin is next }
+  begun y = record m { world = with_this y; work = rest_above g m l floors begin is next }
 
   variable : IsVariable g.core number_here v.0 false
   variable = next.fine.1.0
@@ -128,7 +128,7 @@ module _ (g : Setting) (fit : IsFitting g) (m : MirState) (l : State) (floors : 
   -- the variable gets the value
   step_above : mir_step (managed g) m ≡ begun x
   unfolding execute perform
-  step_above = step_here g fit m l floors begin is next ∙ ap (λ d. record m { world = with_value (all_of (local d v.0)) x m.world; rest = rest_above g m l floors begin is next }) next.stays.depth
+  step_above = step_here g fit m l floors begin is next ∙ ap (λ d. record m { world = with_value (all_of (local d v.0)) x m.world; work = rest_above g m l floors begin is next }) next.stays.depth
 
   -- a first value names no instance
   plain_with : (w : FirstValue) → IsPlainWorld (with_this (first_of g.core of w))

@@ -83,7 +83,7 @@ module _ (g : Setting) (floors : ℕ → Floor) (m : MirState) (l : State) (s : 
 
 module _ (g : Setting) (floors : ℕ → Floor) (m : MirState) (v : LocalId) (q : VirtualRegister) (home : home_at (here m floors).frame.homes v ≡ Held q) (x y : Value) (same : number_in y ≡ number_in x) (rest : List Instr) where
   abbrev begun : Value → MirState
-  begun z = record m { world = with_value (all_of (local (length m.callers) v.0)) z m.world; rest = rest }
+  begun z = record m { world = with_value (all_of (local (length m.callers) v.0)) z m.world; work = rest }
 
   abbrev holds : Value → Holder → Value
   holds z = (begun z).world.memory
@@ -188,7 +188,7 @@ module _ (g : Setting) (fit : IsFitting g) (floors : ℕ → Floor) (m : MirStat
         by false e = refl
 
     -- and so both still stand for one another
-    pub stays_begun : (rest : List Instr) (f : ℕ → ℕ) (now : List LowInstruction) → IsPlainWorld (with_value (all_of holder) x m.world) → ((y : ℕ) → y < l.limit → memory y < 2 ^ 8) → Lies (arrangement_of g.core of) x memory place → ((r : ℕ) → r < (here m floors).frame.bank.scratch → r ≢ (here m floors).frame.spare.0 → f r ≡ l.top.registers r) → Stays g floors (record m { world = with_value (all_of holder) x m.world; rest = rest }) (record (at l f now) { memory = memory })
+    pub stays_begun : (rest : List Instr) (f : ℕ → ℕ) (now : List LowInstruction) → IsPlainWorld (with_value (all_of holder) x m.world) → ((y : ℕ) → y < l.limit → memory y < 2 ^ 8) → Lies (arrangement_of g.core of) x memory place → ((r : ℕ) → r < (here m floors).frame.bank.scratch → r ≢ (here m floors).frame.spare.0 → f r ≡ l.top.registers r) → Stays g floors (record m { world = with_value (all_of holder) x m.world; work = rest }) (record (at l f now) { memory = memory })
     stays_begun rest f now plain bytes there same =
         let a = s.activation in
         let fits = a.floor.fits in

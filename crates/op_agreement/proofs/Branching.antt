@@ -157,7 +157,7 @@ module _ (g : Setting) (fit : IsFitting g) (m : MirState) (l : State) (floors : 
   abbrev pub bank_here : Bank
   bank_here = (here m floors).frame.bank
 
-  pub step_here : mir_step (managed g) m ≡ execute (managed g) (view_instruction g.core (here m floors).number i) (record m { rest = rest_above g m l floors i is next })
+  pub step_here : mir_step (managed g) m ≡ execute (managed g) (view_instruction g.core (here m floors).number i) (record m { work = rest_above g m l floors i is next })
   step_here = step_is g m (view_instruction g.core (here m floors).number i) (rest_above g m l floors i is next) next.ending next.stays.plain.raised next.frames next.above
 
   -- the machine stands before the code
@@ -171,13 +171,13 @@ module _ (g : Setting) (fit : IsFitting g) (m : MirState) (l : State) (floors : 
       (goes_straight g l code (rest_below g m l floors i is next) l.top.registers))
 
   -- a temporary becomes a number, or an error ends the program
-  pub answered : (code : List LowInstruction) (to : TemporaryId) (x : Meant) → code_for g.core g.mir (here m floors).frame i ≡ code → fewest_steps code ≡ 1 → length code ≤ 16 → (IsLight i → ⊥) → AreFine g.core g.mir (here m floors).number (here m floors).routine is → Answers (work_of bank_here) (register_of bank_here to) l.top.registers x (outcome code l.top.registers) → mir_step (managed g) m ≡ record m { world = settled g.core to.0 x m.world; rest = rest_above g m l floors i is next } → Comes g m l
+  pub answered : (code : List LowInstruction) (to : TemporaryId) (x : Meant) → code_for g.core g.mir (here m floors).frame i ≡ code → fewest_steps code ≡ 1 → length code ≤ 16 → (IsLight i → ⊥) → AreFine g.core g.mir (here m floors).number (here m floors).routine is → Answers (work_of bank_here) (register_of bank_here to) l.top.registers x (outcome code l.top.registers) → mir_step (managed g) m ≡ record m { world = settled g.core to.0 x m.world; work = rest_above g m l floors i is next } → Comes g m l
   answered code to x is_code some short heavy fine answers step = by x (outcome code l.top.registers) (runs_here code is_code some) answers step
     where
       affords : (n : ℕ) → n ≤ 32 → n ≤ most_for_one * mir_cost (managed g) m
       affords n few = afford g fit m l floors i is next heavy n (omega arith)
 
-      by : (x : Meant) (o : Outcome) → GoesTo g 1 (length code) l l (rest_below g m l floors i is next) o → Answers (work_of bank_here) (register_of bank_here to) l.top.registers x o → mir_step (managed g) m ≡ record m { world = settled g.core to.0 x m.world; rest = rest_above g m l floors i is next } → Comes g m l
+      by : (x : Meant) (o : Outcome) → GoesTo g 1 (length code) l l (rest_below g m l floors i is next) o → Answers (work_of bank_here) (register_of bank_here to) l.top.registers x o → mir_step (managed g) m ≡ record m { world = settled g.core to.0 x m.world; work = rest_above g m l floors i is next } → Comes g m l
       by (gives n) (Behind h) goes answers step = record {
         to = at l h (rest_below g m l floors i is next);
         goes = goes_within g 1 (most_for_one * mir_cost (managed g) m) l (at l h (rest_below g m l floors i is next)) goes (affords (length code) (omega arith));
@@ -199,10 +199,10 @@ module _ (g : Setting) (fit : IsFitting g) (m : MirState) (l : State) (floors : 
 
   -- ---- code that goes to a block, or on
 
-  pub turned : (code : List LowInstruction) (target : Option ℕ) → code_for g.core g.mir (here m floors).frame i ≡ code → fewest_steps code ≡ 1 → length code ≤ most_for_one * mir_cost (managed g) m → (target ≡ None → AreFine g.core g.mir (here m floors).number (here m floors).routine is) → ((k : ℕ) → target ≡ Some k → IsTarget (here m floors).routine (record { 0 = k })) → Turns (work_of bank_here) l.top.registers target (outcome code l.top.registers) → mir_step (managed g) m ≡ go_if (managed g) target (record m { rest = rest_above g m l floors i is next }) → Comes g m l
+  pub turned : (code : List LowInstruction) (target : Option ℕ) → code_for g.core g.mir (here m floors).frame i ≡ code → fewest_steps code ≡ 1 → length code ≤ most_for_one * mir_cost (managed g) m → (target ≡ None → AreFine g.core g.mir (here m floors).number (here m floors).routine is) → ((k : ℕ) → target ≡ Some k → IsTarget (here m floors).routine (record { 0 = k })) → Turns (work_of bank_here) l.top.registers target (outcome code l.top.registers) → mir_step (managed g) m ≡ go_if (managed g) target (record m { work = rest_above g m l floors i is next }) → Comes g m l
   turned code target is_code some few fine there turns step = by target (outcome code l.top.registers) (runs_here code is_code some) fine there turns step
     where
-      by : (target : Option ℕ) (o : Outcome) → GoesTo g 1 (length code) l l (rest_below g m l floors i is next) o → (target ≡ None → AreFine g.core g.mir (here m floors).number (here m floors).routine is) → ((k : ℕ) → target ≡ Some k → IsTarget (here m floors).routine (record { 0 = k })) → Turns (work_of bank_here) l.top.registers target o → mir_step (managed g) m ≡ go_if (managed g) target (record m { rest = rest_above g m l floors i is next }) → Comes g m l
+      by : (target : Option ℕ) (o : Outcome) → GoesTo g 1 (length code) l l (rest_below g m l floors i is next) o → (target ≡ None → AreFine g.core g.mir (here m floors).number (here m floors).routine is) → ((k : ℕ) → target ≡ Some k → IsTarget (here m floors).routine (record { 0 = k })) → Turns (work_of bank_here) l.top.registers target o → mir_step (managed g) m ≡ go_if (managed g) target (record m { work = rest_above g m l floors i is next }) → Comes g m l
       by None (Behind h) goes fine there turns step = record {
         to = at l h (rest_below g m l floors i is next);
         goes = goes_within g 1 (most_for_one * mir_cost (managed g) m) l (at l h (rest_below g m l floors i is next)) goes few;
@@ -218,7 +218,7 @@ module _ (g : Setting) (fit : IsFitting g) (m : MirState) (l : State) (floors : 
             to = at l h (block_of g.low l.top.routine block.0);
             goes = goes_within g 1 (most_for_one * mir_cost (managed g) m) l (at l h (block_of g.low l.top.routine block.0)) goes few;
             stands = subst (λ x. Stands g x (at l h (block_of g.low l.top.routine block.0))) (sym step)
-                (stands_on g (record m { rest = block_at ((managed g).blocks m.routine) k }) (at l h (block_of g.low l.top.routine block.0)) next.ending next.frames (record {
+                (stands_on g (record m { work = block_at ((managed g).blocks m.routine) k }) (at l h (block_of g.low l.top.routine block.0)) next.ending next.frames (record {
                   floors = floors;
                   stays = stays_registers g floors m l m.world.temps (block_at ((managed g).blocks m.routine) k) h (block_of g.low l.top.routine block.0)
                       (all_variables_kept g (here m floors) a.floor.fits l.top.registers h kept)

@@ -46,7 +46,7 @@ pub record Waits (g : Setting) (floors : ℕ → Floor) (m : MirState) (l : Stat
   pub result : ResultGoes g floors (length cs) declared c.receiver lc (l.top.registers result_address.0)
   pub nameless : (t : ℕ) → IsNameless (c.temps t)
   pub made : c.made ≡ []
-  pub position : Position g (floors (length cs)) c.rest lc.activation.now
+  pub position : Position g (floors (length cs)) c.work lc.activation.now
   pub activation : ActivationStands g floors (length cs) m.world.memory m.world.bound c.temps c.routine lc.activation below spare under
   pub callers : CallersStand g floors m.world.memory m.world.bound cs lcs c.routine (lc.activation.registers result_address.0) below spare under
 
@@ -88,11 +88,12 @@ module _ (g : Setting) (fit : IsFitting g) (m : MirState) (l : State) (floors : 
   gone_above temps = record {
     world = record m.world { temps = temps; made = c.made; depth = m.world.depth - 1 };
     routine = c.routine;
-    rest = c.rest;
+    work = c.work;
     frames = c.frames;
     callers = cs;
     pending = m.pending;
     charged = w.under;
+    counts = tt;
   }
 
   abbrev pub gone_below : ℕ → State

@@ -16,9 +16,9 @@ use Rattle.op_low.specs.Machine.{act, call as call_below, can_enter}
 use Rattle.op_low.specs.State.{Ending, Running, State, bad, block_of, routine_of, space, value_in}
 use Rattle.op_low.specs.declared.ids.VirtualRegister.{VirtualRegister}
 use Rattle.op_low.specs.declared.instruction.Instruction.{Instruction as LowInstruction}
-use Rattle.op_meaning.specs.Calls.{Handed, all_handed}
+use Rattle.op_meaning.specs.Calls.{Handed, all_handed, called_with}
 use Rattle.op_meaning.specs.Expressions.{result_of}
-use Rattle.op_mir.specs.Machine.{MirState, execute, mir_called_with, mir_step, mir_cost}
+use Rattle.op_mir.specs.Machine.{MirState, execute, mir_step, mir_cost, code_rules}
 use Rattle.op_mir.specs.Valid.{all_given_fit}
 use Rattle.op_mir.specs.View.{view_given, view_receiver}
 use Rattle.op_mir.specs.declared.code.Routine.{Routine}
@@ -95,12 +95,12 @@ module _ (g : Setting) (fit : IsFitting g) (m : MirState) (l : State) (floors : 
       ∙ ap (at l l.top.registers) (regroup result_front all_given_code charging entering rest)
 
   abbrev behind_call : MirState
-  behind_call = record m { rest = rest_above g m l floors (Call callee call) js next }
+  behind_call = record m { work = rest_above g m l floors (Call callee call) js next }
 
   -- the step above, by what is handed over
-  stepped : (o : Option (List Handed)) → all_handed m.world (map view_given call.given) ≡ o → mir_step (managed g) m ≡ mir_called_with (managed g) callee.0 (view_receiver call.receiver) o behind_call
+  stepped : (o : Option (List Handed)) → all_handed m.world (map view_given call.given) ≡ o → mir_step (managed g) m ≡ called_with (code_rules (managed g)) callee.0 (view_receiver call.receiver) behind_call.work o behind_call
   unfolding execute
-  stepped o e = step_here g fit m l floors (Call callee call) js next ∙ ap (λ o. mir_called_with (managed g) callee.0 (view_receiver call.receiver) o behind_call) e
+  stepped o e = step_here g fit m l floors (Call callee call) js next ∙ ap (λ o. called_with (code_rules (managed g)) callee.0 (view_receiver call.receiver) behind_call.work o behind_call) e
 
   -- where the stack has room, the routine begins above
   pub step_begins : (given : List Handed) → all_handed m.world (map view_given call.given) ≡ Some given → nat_lt g.stack (m.charged + (managed g).charge callee.0) ≡ false → mir_step (managed g) m ≡ begun_above (managed g) callee.0 (view_receiver call.receiver) given behind_call

@@ -121,7 +121,7 @@ module _ (g : Setting) (fit : IsFitting g) (m : MirState) (l : State) (floors : 
       let wraps = word_wraps _ n (number_is n fits) in
       answered g fit m l floors (Act (Constant to n) landing) is next (constant_code (register_of (here m floors).frame.bank to) n) to (gives n) refl refl (omega arith) (λ light. light) (behind_act next.on)
       (constant (work_of (here m floors).frame.bank) (register_of (here m floors).frame.bank to) l.top.registers n fits)
-      (step_here g fit m l floors (Act (Constant to n) landing) is next ∙ ap (λ z. record m { world = with_number to.0 z m.world; rest = rest_above g m l floors (Act (Constant to n) landing) is next }) wraps)
+      (step_here g fit m l floors (Act (Constant to n) landing) is next ∙ ap (λ z. record m { world = with_number to.0 z m.world; work = rest_above g m l floors (Act (Constant to n) landing) is next }) wraps)
 
   pub compute_comes : (c : Computation) (landing : _) → Stands_next (Act (Compute c) landing) → Comes g m l
   unfolding code_for execute action_fits
@@ -136,7 +136,7 @@ module _ (g : Setting) (fit : IsFitting g) (m : MirState) (l : State) (floors : 
       let y = number_at m.world (right_of c).0 in
       answered g fit m l floors (Act (Compute c) landing) is next (computation_code bank c) (to_of c) (meant c x y) refl some (computation_short bank c) (λ light. light) (behind_act next.on)
       (computation_answers bank c l.top.registers x y words fits.apart (a.kept.temporaries (left_of c).0 fits.first) (a.kept.temporaries (right_of c).0 fits.second))
-      (step_here g fit m l floors (Act (Compute c) landing) is next ∙ ap (λ w. record m { world = w; rest = rest_above g m l floors (Act (Compute c) landing) is next }) (performed g.core c m.world))
+      (step_here g fit m l floors (Act (Compute c) landing) is next ∙ ap (λ w. record m { world = w; work = rest_above g m l floors (Act (Compute c) landing) is next }) (performed g.core c m.world))
 
   -- ---- branches
 
@@ -165,7 +165,7 @@ module _ (g : Setting) (fit : IsFitting g) (m : MirState) (l : State) (floors : 
       turned g fit m l floors (When t block) is next (true_code (work_of bank) (register_of bank t) block) (where_true x block.0) refl refl (afford g fit m l floors (When t block) is next (λ light. light) 2 (omega arith)) (λ e. behind_act next.on) (λ k e. target_same (here m floors).routine block k (true_target x block.0 k e) next.fine.1) (branches.when_true block)
       (step_here g fit m l floors (When t block) is next ∙ by (is_true x))
     where
-      by : (b : Bool) → (if b then go_to (managed g) block.0 (record m { rest = rest_above g m l floors (When t block) is next }) else record m { rest = rest_above g m l floors (When t block) is next }) ≡ go_if (managed g) (if b then Some block.0 else None) (record m { rest = rest_above g m l floors (When t block) is next })
+      by : (b : Bool) → (if b then go_to (managed g) block.0 (record m { work = rest_above g m l floors (When t block) is next }) else record m { work = rest_above g m l floors (When t block) is next }) ≡ go_if (managed g) (if b then Some block.0 else None) (record m { work = rest_above g m l floors (When t block) is next })
       by true = refl
       by false = refl
 
@@ -178,7 +178,7 @@ module _ (g : Setting) (fit : IsFitting g) (m : MirState) (l : State) (floors : 
       turned g fit m l floors (Unless t block) is next (false_code (work_of bank) (register_of bank t) block) (where_false x block.0) refl refl (afford g fit m l floors (Unless t block) is next (λ light. light) 2 (omega arith)) (λ e. behind_act next.on) (λ k e. target_same (here m floors).routine block k (false_target x block.0 k e) next.fine.1) (branches.when_false block)
       (step_here g fit m l floors (Unless t block) is next ∙ by (is_true x))
     where
-      by : (b : Bool) → (if b then record m { rest = rest_above g m l floors (Unless t block) is next } else go_to (managed g) block.0 (record m { rest = rest_above g m l floors (Unless t block) is next })) ≡ go_if (managed g) (if b then None else Some block.0) (record m { rest = rest_above g m l floors (Unless t block) is next })
+      by : (b : Bool) → (if b then record m { work = rest_above g m l floors (Unless t block) is next } else go_to (managed g) block.0 (record m { work = rest_above g m l floors (Unless t block) is next })) ≡ go_if (managed g) (if b then None else Some block.0) (record m { work = rest_above g m l floors (Unless t block) is next })
       by true = refl
       by false = refl
 
@@ -206,4 +206,4 @@ module _ (g : Setting) (fit : IsFitting g) (m : MirState) (l : State) (floors : 
       let plain = next.stays.plain in
       let branches = branches_turn (work_of bank) (register_of bank t) l.top.registers x (reads (Dispatch t block) next t next.fine.0) third in
       turned g fit m l floors (Dispatch t block) is next (dispatch_code (work_of bank) (register_of bank t) block) (way_for x block.0) refl refl (afford g fit m l floors (Dispatch t block) is next (λ light. light) 6 (omega arith)) (λ e. behind_act next.on) (λ k e. way_target (here m floors).routine x block.0 k next.fine.1 e) (branches.by_reason block)
-      (step_here g fit m l floors (Dispatch t block) is next ∙ dispatched_is (managed g) x t.0 block.0 (record m { rest = rest_above g m l floors (Dispatch t block) is next }) plain.raised (name_in_nameless (m.world.temps (t.0 + 1)) (plain.temps (t.0 + 1))))
+      (step_here g fit m l floors (Dispatch t block) is next ∙ dispatched_is (managed g) x t.0 block.0 (record m { work = rest_above g m l floors (Dispatch t block) is next }) plain.raised (name_in_nameless (m.world.temps (t.0 + 1)) (plain.temps (t.0 + 1))))

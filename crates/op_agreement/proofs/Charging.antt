@@ -14,9 +14,10 @@ use Rattle.op_expand.specs.Homes.{parameter}
 use Rattle.op_expand.specs.declared.frame.Frame.{Frame}
 use Rattle.op_low.specs.State.{routine_of, space}
 use Rattle.op_low.specs.declared.ids.VirtualRegister.{VirtualRegister}
-use Rattle.op_meaning.specs.Calls.{Handed, entered}
+use Rattle.op_meaning.specs.Calls.{Handed, begun, caller_of, entered}
+use Rattle.op_meaning.specs.Frames.{fails}
 use Rattle.op_meaning.specs.Items.{Receiver}
-use Rattle.op_mir.specs.Machine.{Code, MirState, block_at, mir_begun, mir_caller_of, mir_fails, tables}
+use Rattle.op_mir.specs.Machine.{Code, MirState, block_at, code_rules, tables}
 use Rattle.op_mir.specs.View.{routine_at}
 use Rattle.op_mir.specs.declared.code.Routine.{Routine}
 use Rattle.op_rv.specs.declared.instruction.AluOp.TheVariants.{Sub}
@@ -120,7 +121,7 @@ module _ (g : Setting) (fit : IsFitting g) (r : ℕ) (x : Routine) (low : r < le
       record { fits = fits; charge = charge; whole = charge_below ∙ whole; test = ap (nat_lt bytes) charge_below ∙ test; space = omega arith }
 
 -- what is meant where the stack has no room
-pub begun_over : (c : Code) (r : ℕ) (receiver : Receiver) (given : List Handed) (m : MirState) → nat_lt c.stack (m.charged + c.charge r) ≡ true → mir_begun c r receiver given m ≡ mir_fails c 202 m
+pub begun_over : (c : Code) (r : ℕ) (receiver : Receiver) (given : List Handed) (m : MirState) → nat_lt c.stack (m.charged + c.charge r) ≡ true → begun (code_rules c) r receiver m.work given m ≡ fails (tables c) 202 m
 begun_over c r receiver given m over = rw over refl
 
 -- the state in which a routine begins
@@ -128,13 +129,14 @@ abbrev pub begun_above : Code → ℕ → Receiver → List Handed → MirState 
 begun_above c r receiver given m = record {
   world = entered (tables c) r given m.world;
   routine = r;
-  rest = block_at (c.blocks r) 0;
+  work = block_at (c.blocks r) 0;
   frames = [];
-  callers = mir_caller_of m receiver ∷ m.callers;
+  callers = caller_of m receiver m.work ∷ m.callers;
   pending = m.pending;
   charged = m.charged + c.charge r;
+  counts = tt;
 }
 
 -- what is meant where it has room
-pub begun_under : (c : Code) (r : ℕ) (receiver : Receiver) (given : List Handed) (m : MirState) → nat_lt c.stack (m.charged + c.charge r) ≡ false → mir_begun c r receiver given m ≡ begun_above c r receiver given m
+pub begun_under : (c : Code) (r : ℕ) (receiver : Receiver) (given : List Handed) (m : MirState) → nat_lt c.stack (m.charged + c.charge r) ≡ false → begun (code_rules c) r receiver m.work given m ≡ begun_above c r receiver given m
 begun_under c r receiver given m under = rw under refl

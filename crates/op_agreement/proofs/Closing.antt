@@ -37,11 +37,13 @@ use Rattle.op_low.specs.State.{Caller, State, Ended}
 use Rattle.op_low.specs.declared.ids.VirtualRegister.{VirtualRegister}
 use Rattle.op_low.specs.declared.instruction.Instruction.{Instruction as LowInstruction}
 use Rattle.op_low.specs.declared.instruction.Instruction.TheVariants.{Const, Exit, Move}
+use Rattle.op_meaning.specs.Ending.{closed}
 use Rattle.op_meaning.specs.Frames.{Pending, closing}
-use Rattle.op_meaning.specs.Machine.{low_eight}
+use Rattle.op_meaning.specs.Machine.{low_eight, returned}
+use Rattle.op_meaning.specs.Unwinding.{closes}
 use Rattle.op_meaning.specs.World.{number_at, Running as GoingOn, Ended as HasEnded}
 use Rattle.op_mir.specs.Code.{Instr}
-use Rattle.op_mir.specs.Machine.{MirCaller, MirState, execute, mir_cost, mir_cost_by, mir_effort, mir_acted, mir_closed, mir_closes, mir_returned, mir_step, mir_step_by, mir_stepped}
+use Rattle.op_mir.specs.Machine.{MirCaller, MirState, execute, mir_cost, mir_cost_by, mir_effort, mir_acted, mir_step, mir_step_by, mir_stepped, code_rules, tables}
 use Rattle.op_mir.specs.declared.ids.TemporaryId.{TemporaryId}
 use Rattle.op_mir.specs.declared.instruction.Instruction.{Instruction}
 use Rattle.op_mir.specs.declared.instruction.Instruction.TheVariants.{Return, Stop}
@@ -86,7 +88,7 @@ module _ (g : Setting) where
   closes_above : (m : MirState) (status : ℕ) → m.world.ending ≡ GoingOn → m.frames ≡ closing status ∷ [] → m.world.raised ≡ None → m.pending ≡ [] → mir_step (managed g) m ≡ record m { world = record m.world { ending = HasEnded status } }
   unfolding mir_step mir_step_by mir_stepped mir_acted
   closes_above m status ending frames raised pending =
-      ap (λ x. mir_step_by (managed g) x m) ending ∙ ap (λ x. mir_stepped (managed g) x m) raised ∙ ap (λ x. mir_acted (managed g) x m) frames ∙ ap (λ x. mir_closed (managed g) status x m) pending
+      ap (λ x. mir_step_by (managed g) x m) ending ∙ ap (λ x. mir_stepped (managed g) x m) raised ∙ ap (λ x. mir_acted (managed g) x m) frames ∙ ap (λ x. closed (code_rules (managed g)) status x m) pending
 
   pub closing_comes : (m : MirState) (l : State) (status : ℕ) → m.world.ending ≡ GoingOn → m.frames ≡ closing status ∷ [] → Closes g status m l → Comes g m l
   unfolding act
@@ -143,7 +145,7 @@ module _ (g : Setting) (fit : IsFitting g) (closes : has_closing g.core ≡ true
   begun_by : (f : ℕ → ℕ) (status : VirtualRegister) (code : ℕ) (rest : List LowInstruction) (after : List Instr) (most : ℕ)
       → f status.0 % 2 ^ 8 ≡ code → ((r : ℕ) → r < (here m floors).frame.bank.scratch → f r ≡ l.top.registers r)
       → Found g (closing_begun g l (ends_at l f rest) (slice_index (f 0 ∷ f status.0 ∷ [])) []) (slice_index (f 0 ∷ f status.0 ∷ [])) (length m.pending) most (closing_begun g l (ends_at l f rest) (slice_index (f 0 ∷ f status.0 ∷ [])) (finding_code g.core g.stack (length (finalizations g.core))))
-      → Begun g (record m { rest = after; frames = closing code ∷ [] }) l (23 + most) (at l f (closing_call g.core status ∷ rest)) code
+      → Begun g (record m { work = after; frames = closing code ∷ [] }) l (23 + most) (at l f (closing_call g.core status ∷ rest)) code
   begun_by f status code rest after most told kept found =
       let fits = s.activation.floor.fits in
       let space = (fit.closing closes).space in
@@ -170,14 +172,14 @@ module _ (g : Setting) (fit : IsFitting g) (closes : has_closing g.core ≡ true
       }
 
   -- wherever in the order of the units the program is
-  pub begins_anywhere : (f : ℕ → ℕ) (status : VirtualRegister) (code : ℕ) (rest : List LowInstruction) (after : List Instr) → f status.0 % 2 ^ 8 ≡ code → ((r : ℕ) → r < (here m floors).frame.bank.scratch → f r ≡ l.top.registers r) → Begun g (record m { rest = after; frames = closing code ∷ [] }) l (23 + (4 + 2 * length (finalizations g.core))) (at l f (closing_call g.core status ∷ rest)) code
+  pub begins_anywhere : (f : ℕ → ℕ) (status : VirtualRegister) (code : ℕ) (rest : List LowInstruction) (after : List Instr) → f status.0 % 2 ^ 8 ≡ code → ((r : ℕ) → r < (here m floors).frame.bank.scratch → f r ≡ l.top.registers r) → Begun g (record m { work = after; frames = closing code ∷ [] }) l (23 + (4 + 2 * length (finalizations g.core))) (at l f (closing_call g.core status ∷ rest)) code
   begins_anywhere f status code rest after told kept =
       let h = slice_index (f 0 ∷ f status.0 ∷ []) in
       begun_by f status code rest after (4 + 2 * length (finalizations g.core)) told kept
       (finds g fit closes (closing_begun g l (ends_at l f rest) h []) refl bottom_here (length m.pending) h s.pending.few s.due)
 
   -- where all units have begun
-  pub begins_last : (f : ℕ → ℕ) (status : VirtualRegister) (code : ℕ) (rest : List LowInstruction) (after : List Instr) → length m.pending ≡ length (finalizations g.core) → f status.0 % 2 ^ 8 ≡ code → ((r : ℕ) → r < (here m floors).frame.bank.scratch → f r ≡ l.top.registers r) → Begun g (record m { rest = after; frames = closing code ∷ [] }) l 27 (at l f (closing_call g.core status ∷ rest)) code
+  pub begins_last : (f : ℕ → ℕ) (status : VirtualRegister) (code : ℕ) (rest : List LowInstruction) (after : List Instr) → length m.pending ≡ length (finalizations g.core) → f status.0 % 2 ^ 8 ≡ code → ((r : ℕ) → r < (here m floors).frame.bank.scratch → f r ≡ l.top.registers r) → Begun g (record m { work = after; frames = closing code ∷ [] }) l 27 (at l f (closing_call g.core status ∷ rest)) code
   begins_last f status code rest after all told kept =
       let h = slice_index (f 0 ∷ f status.0 ∷ []) in
       begun_by f status code rest after 4 told kept
@@ -190,13 +192,13 @@ module _ (g : Setting) (fit : IsFitting g) (m : MirState) (l : State) (floors : 
   main_callers (c ∷ cs) ls number address limit room charged e s = absurd cc
 
   abbrev main_behind : MirState
-  main_behind = record m { rest = rest_above g m l floors Return is next }
+  main_behind = record m { work = rest_above g m l floors Return is next }
 
   -- all finalization parts are due by then
   all_due : m.callers ≡ [] → AreStillDue g m → length m.pending ≡ length (finalizations g.core)
   all_due none due =
       let open_ : NoneCloses m.frames m.callers = subst (NoneCloses m.frames) (sym none) next.frames in
-      let over : dues_in (lowest_rest m.rest m.callers) ≡ [] = ap (λ cs. dues_in (lowest_rest m.rest cs)) none ∙ ap dues_in next.above in
+      let over : dues_in (lowest_rest m.work m.callers) ≡ [] = ap (λ cs. dues_in (lowest_rest m.work cs)) none ∙ ap dues_in next.above in
       let nothing : drop (length m.pending) (finalizations g.core) ≡ [] = sym (due open_) ∙ over in
       let left_over = length-drop (length m.pending) (finalizations g.core) in
       let length_is : length (drop (length m.pending) (finalizations g.core)) ≡ 0 = ap length nothing in
@@ -217,7 +219,7 @@ module _ (g : Setting) (fit : IsFitting g) (m : MirState) (l : State) (floors : 
 
   main_step : m.callers ≡ [] → mir_step (managed g) m ≡ record main_behind { frames = closing 0 ∷ [] }
   unfolding execute
-  main_step none = step_here g fit m l floors Return is next ∙ ap (λ cs. mir_returned (managed g) cs main_behind) none ∙ ap (λ fs. mir_closes 0 fs main_behind) next.frames
+  main_step none = step_here g fit m l floors Return is next ∙ ap (λ cs. returned (tables (managed g)) cs main_behind) none ∙ ap (λ fs. closes 0 fs main_behind) next.frames
 
   -- without finalization parts the program is about to end
   main_ends : has_closing g.core ≡ false → m.callers ≡ [] → Comes g m l
@@ -285,7 +287,7 @@ low_eight_is word n is = by (cases_lt word 2147483648) ∙ ap (λ z. unsigned_ab
 
 module _ (g : Setting) (fit : IsFitting g) (m : MirState) (l : State) (floors : ℕ → Floor) (is : List Instruction) (t : TemporaryId) (next : Next g m l floors (Stop t) is) where
   abbrev stop_behind : MirState
-  stop_behind = record m { rest = rest_above g m l floors (Stop t) is next }
+  stop_behind = record m { work = rest_above g m l floors (Stop t) is next }
 
   abbrev status_register : VirtualRegister
   status_register = register_of (here m floors).frame.bank t
@@ -302,7 +304,7 @@ module _ (g : Setting) (fit : IsFitting g) (m : MirState) (l : State) (floors : 
 
   stop_step : mir_step (managed g) m ≡ record stop_behind { frames = closing status_told ∷ [] }
   unfolding execute
-  stop_step = step_here g fit m l floors (Stop t) is next ∙ ap (λ fs. mir_closes status_told fs stop_behind) next.frames
+  stop_step = step_here g fit m l floors (Stop t) is next ∙ ap (λ fs. closes status_told fs stop_behind) next.frames
 
   status_there : l.top.registers status_register.0 % 2 ^ 8 ≡ status_told
   status_there = low_eight_is (l.top.registers status_register.0) (number_at m.world t.0) (next.stays.activation.kept.temporaries t.0 (has_of (here m floors).routine t next.fine))

@@ -78,11 +78,11 @@ module _ (g : Setting) (m : MirState) (l : State) (floors : ℕ → Floor) (i : 
   rest_stands fine = record { is = is; above = refl; below = refl; literals = next.others; fine = fine; homes = next.more }
 
   -- a temporary has become a number
-  pub number_stands : (to : TemporaryId) (n : ℤ) (h : ℕ → ℕ) → AreFine g.core g.mir (here m floors).number (here m floors).routine is → Gives (work_of (here m floors).frame.bank) (register_of (here m floors).frame.bank to) l.top.registers h n → Stands g (record m { world = with_number to.0 n m.world; rest = rest_above }) (at l h rest_below)
+  pub number_stands : (to : TemporaryId) (n : ℤ) (h : ℕ → ℕ) → AreFine g.core g.mir (here m floors).number (here m floors).routine is → Gives (work_of (here m floors).frame.bank) (register_of (here m floors).frame.bank to) l.top.registers h n → Stands g (record m { world = with_number to.0 n m.world; work = rest_above }) (at l h rest_below)
   number_stands to n h fine gives =
       let s = next.stays in
       let fits = s.activation.floor.fits in
-      stands_on g (record m { world = with_number to.0 n m.world; rest = rest_above }) (at l h rest_below) next.ending next.frames (record {
+      stands_on g (record m { world = with_number to.0 n m.world; work = rest_above }) (at l h rest_below) next.ending next.frames (record {
         floors = floors;
         stays = stays_registers g floors m l (λ u. if nat_eq u to.0 then number n else m.world.temps u) rest_above h rest_below
             (variables_kept g (here m floors) fits to l.top.registers h gives.others)
@@ -92,11 +92,11 @@ module _ (g : Setting) (m : MirState) (l : State) (floors : ℕ → Floor) (i : 
       })
 
   -- nothing has changed but scratch registers
-  pub nothing_stands : (h : ℕ → ℕ) → AreFine g.core g.mir (here m floors).number (here m floors).routine is → AreAllKept (work_of (here m floors).frame.bank) l.top.registers h → Stands g (record m { rest = rest_above }) (at l h rest_below)
+  pub nothing_stands : (h : ℕ → ℕ) → AreFine g.core g.mir (here m floors).number (here m floors).routine is → AreAllKept (work_of (here m floors).frame.bank) l.top.registers h → Stands g (record m { work = rest_above }) (at l h rest_below)
   nothing_stands h fine kept =
       let s = next.stays in
       let fits = s.activation.floor.fits in
-      stands_on g (record m { rest = rest_above }) (at l h rest_below) next.ending next.frames (record {
+      stands_on g (record m { work = rest_above }) (at l h rest_below) next.ending next.frames (record {
         floors = floors;
         stays = stays_registers g floors m l m.world.temps rest_above h rest_below
             (all_variables_kept g (here m floors) fits l.top.registers h kept)

@@ -171,7 +171,7 @@ module _ (g : Setting) (fit : IsFitting g) (m : MirState) (l : State) (floors : 
           copied (arrangement_of g.core of) (value_at m.world q) l.memory memory a b part.arranged (λ x low. bytes_moved x (omega arith)) from.lies
 
       -- and so what stays
-      pub stays_copied : (rest : List Instr) (f : ℕ → ℕ) (now : List LowInstruction) → IsPlainWorld (with_value p (value_at m.world q) m.world) → SameVariables (here m floors) l.top.registers f → Temporaries (here m floors) m.world.temps f → Stays g floors (record m { world = with_value p (value_at m.world q) m.world; rest = rest }) (record (at l f now) { memory = memory })
+      pub stays_copied : (rest : List Instr) (f : ℕ → ℕ) (now : List LowInstruction) → IsPlainWorld (with_value p (value_at m.world q) m.world) → SameVariables (here m floors) l.top.registers f → Temporaries (here m floors) m.world.temps f → Stays g floors (record m { world = with_value p (value_at m.world q) m.world; work = rest }) (record (at l f now) { memory = memory })
       stays_copied rest f now plain same are =
           stays_put g fit floors m l s p of b other some small (value_at m.world q) memory changed rest f now plain bytes_stay value_there same are
 
@@ -207,7 +207,7 @@ module _ (g : Setting) (fit : IsFitting g) (m : MirState) (l : State) (floors : 
     same_below = record { floors = λ d low. refl; variables = λ d u r low variable home. held_same d u r (omega arith) variable home; places = λ d u low reference. refl }
 
     -- and so what stays
-    pub stays_nothing : (rest : List Instr) (f : ℕ → ℕ) (now : List LowInstruction) → IsPlainWorld (with_value p v m.world) → SameVariables (here m floors) l.top.registers f → Temporaries (here m floors) m.world.temps f → Stays g floors (record m { world = with_value p v m.world; rest = rest }) (at l f now)
+    pub stays_nothing : (rest : List Instr) (f : ℕ → ℕ) (now : List LowInstruction) → IsPlainWorld (with_value p v m.world) → SameVariables (here m floors) l.top.registers f → Temporaries (here m floors) m.world.temps f → Stays g floors (record m { world = with_value p v m.world; work = rest }) (at l f now)
     stays_nothing rest f now plain same are =
         let a = s.activation in
         let fits = a.floor.fits in

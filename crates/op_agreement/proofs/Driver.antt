@@ -37,18 +37,19 @@ use Rattle.op_agreement.proofs.Waiting.{caller_waits}
 use Rattle.op_agreement.proofs.Writing.{write_comes, write_text_comes}
 use Rattle.op_agreement.specs.Chart.{Floor}
 use Rattle.op_agreement.specs.Claims.{AgreesForEver, LowCodeFollows}
+use Rattle.op_expand.specs.Calls.{finalizations}
 use Rattle.op_expand.specs.Routines.{code_of}
 use Rattle.op_agreement.specs.Coding.{code_for}
 use Rattle.op_agreement.specs.Fitting.{IsFitting}
 use Rattle.op_agreement.specs.Handing.{Begins}
 use Rattle.op_agreement.specs.Settings.{AreLiterals, HaveHomes, Setting, managed}
-use Rattle.op_agreement.specs.Stands.{AreStillDue, StandsBy, Stays}
+use Rattle.op_agreement.specs.Stands.{ArePending, AreStillDue, StandsBy, Stays}
 use Rattle.op_agreement.specs.Steps.{Comes}
 use Rattle.op_agreement.specs.Typed.{AreFine}
 
 module _ (g : Setting) (fit : IsFitting g) (m : MirState) (l : State) (ending : m.world.ending ≡ GoingOn) (frames : m.frames ≡ []) (floors : ℕ → Floor) (s : Stays g floors m l) (due : AreStillDue g m) where
   -- the next instruction of a position
-  next_of : (i : Instruction) (is : List Instruction) → m.rest ≡ map (view_instruction g.core (here m floors).number) (i ∷ is) → l.top.now ≡ code_of g.core g.mir (here m floors).frame (literals_of g.core g.mir) (i ∷ is) → AreLiterals (literals_of g.core g.mir) (flat_map (instruction_literals g.core (here m floors).number) (i ∷ is)) → AreFine g.core g.mir (here m floors).number (here m floors).routine (i ∷ is) → HaveHomes g.core (here m floors).number (here m floors).frame (i ∷ is) → Next g m l floors i is
+  next_of : (i : Instruction) (is : List Instruction) → m.work ≡ map (view_instruction g.core (here m floors).number) (i ∷ is) → l.top.now ≡ code_of g.core g.mir (here m floors).frame (literals_of g.core g.mir) (i ∷ is) → AreLiterals (literals_of g.core g.mir) (flat_map (instruction_literals g.core (here m floors).number) (i ∷ is)) → AreFine g.core g.mir (here m floors).number (here m floors).routine (i ∷ is) → HaveHomes g.core (here m floors).number (here m floors).frame (i ∷ is) → Next g m l floors i is
   unfolding code_for
   next_of i is above below literals fine homes =
       let (first, others) = literals_split (literals_of g.core g.mir) (instruction_literals g.core (here m floors).number i) (flat_map (instruction_literals g.core (here m floors).number) is) (subst (AreLiterals (literals_of g.core g.mir)) (flat_map-cons (instruction_literals g.core (here m floors).number) i is) literals) in
@@ -92,7 +93,7 @@ module _ (g : Setting) (fit : IsFitting g) (m : MirState) (l : State) (ending : 
   abbrev Steps : Type 0
   Steps = Comes g m l × AreStillDue g (mir_step (managed g) m)
 
-  position_comes : (is : List Instruction) → m.rest ≡ map (view_instruction g.core (here m floors).number) is → l.top.now ≡ code_of g.core g.mir (here m floors).frame (literals_of g.core g.mir) is → AreLiterals (literals_of g.core g.mir) (flat_map (instruction_literals g.core (here m floors).number) is) → AreFine g.core g.mir (here m floors).number (here m floors).routine is → HaveHomes g.core (here m floors).number (here m floors).frame is → Steps
+  position_comes : (is : List Instruction) → m.work ≡ map (view_instruction g.core (here m floors).number) is → l.top.now ≡ code_of g.core g.mir (here m floors).frame (literals_of g.core g.mir) is → AreLiterals (literals_of g.core g.mir) (flat_map (instruction_literals g.core (here m floors).number) is) → AreFine g.core g.mir (here m floors).number (here m floors).routine is → HaveHomes g.core (here m floors).number (here m floors).frame is → Steps
   position_comes [] above below literals fine homes = absurd fine
   position_comes (i ∷ is) above below literals fine homes = let next = next_of i is above below literals fine homes in (instruction_comes i is next, instruction_due g fit m l floors due i is next)
 
@@ -103,9 +104,9 @@ module _ (g : Setting) (fit : IsFitting g) where
   comes_by GoingOn [] m l ending frames_are due s =
       position_comes g fit m l ending frames_are s.floors s.stays due s.position.is s.position.above s.position.below s.position.literals s.position.fine s.position.homes
   comes_by GoingOn (closing status ∷ []) m l ending frames_are due (inl s) =
-      (closing_comes g m l status ending frames_are s, subst (AreStillDue g) (sym (closing_step g m status m.pending ending frames_are s.raised refl)) (closing_due g m status m.pending frames_are))
+      (closing_comes g m l status ending frames_are s, subst (AreStillDue g) (sym (closing_step g m status m.pending ending frames_are s.raised refl)) (closing_due g m status m.pending frames_are (subst (ArePending (finalizations g.core)) (sym s.pending) (record { few = omega arith; are = refl }))))
   comes_by GoingOn (closing status ∷ []) m l ending frames_are due (inr s) =
-      (closing_goes_on g fit m l status ending frames_are s, subst (AreStillDue g) (sym (closing_step g m status m.pending ending frames_are s.stays.plain.raised refl)) (closing_due g m status m.pending frames_are))
+      (closing_goes_on g fit m l status ending frames_are s, subst (AreStillDue g) (sym (closing_step g m status m.pending ending frames_are s.stays.plain.raised refl)) (closing_due g m status m.pending frames_are s.stays.pending))
   comes_by GoingOn (closing status ∷ frame ∷ frames) m l ending frames_are due s = absurd s
   comes_by GoingOn (walk places lost waits ∷ frames) m l ending frames_are due s = absurd s
   comes_by GoingOn (destruction i started entered places waits ∷ frames) m l ending frames_are due s = absurd s

@@ -103,7 +103,7 @@ module _ (g : Setting) (fit : IsFitting g) (closes : has_closing g.core ≡ true
       by (inr from) (inr behind) = inr behind
       by (inr from) (inl to) = let clash : true ≡ false = sym (fit.placed.due.writable x from to) ∙ fixed in absurd cc
 
-  pub stays_counted : (rest : List Instr) (f : ℕ → ℕ) (now : List LowInstruction) → SameVariables (here m floors) l.top.registers f → Temporaries (here m floors) m.world.temps f → Stays g floors (record m { rest = rest; pending = pending }) (having l f now counted)
+  pub stays_counted : (rest : List Instr) (f : ℕ → ℕ) (now : List LowInstruction) → SameVariables (here m floors) l.top.registers f → Temporaries (here m floors) m.world.temps f → Stays g floors (record m { work = rest; pending = pending }) (having l f now counted)
   stays_counted rest f now same temporaries =
       let a = s.activation in
       let fits = a.floor.fits in

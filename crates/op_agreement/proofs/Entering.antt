@@ -140,11 +140,12 @@ module _ (g : Setting) (fit : IsFitting g) (m : MirState) (l : State) (floors ne
   above_at k = record {
     world = record world_after { memory = values_at k };
     routine = r;
-    rest = block_at ((managed g).blocks r) 0;
+    work = block_at ((managed g).blocks r) 0;
     frames = [];
     callers = c ∷ m.callers;
     pending = m.pending;
     charged = m.charged + (managed g).charge r;
+    counts = tt;
   }
 
   -- low code begins with zeros, and with its arguments in its first registers

@@ -140,7 +140,7 @@ module _ (g : Setting) where
       by : (w : World) → w ≡ stopped (number_of_error e) m.world → Stands g (record m { world = w }) k
       by w is = subst (λ x. Stands g (record m { world = x }) k) (sym is) (record { ending = ending; output = output; errors = errors; input = input })
 
-  pub error_ends : IsFitting g → (floors : ℕ → Floor) (m : MirState) (l : State) → Stays g floors m l → (e : RuntimeError) (f : ℕ → ℕ) (rest : List Instr) → (k : State) × Goes g 5 5 (at l f (block_of g.low l.top.routine (error_block_of (here m floors).frame.bank e).0)) k × Stands g (record m { world = failed g.core (number_of_error e) m.world; rest = rest }) k
+  pub error_ends : IsFitting g → (floors : ℕ → Floor) (m : MirState) (l : State) → Stays g floors m l → (e : RuntimeError) (f : ℕ → ℕ) (rest : List Instr) → (k : State) × Goes g 5 5 (at l f (block_of g.low l.top.routine (error_block_of (here m floors).frame.bank e).0)) k × Stands g (record m { world = failed g.core (number_of_error e) m.world; work = rest }) k
   error_ends fit floors m l s e f rest =
       let a = s.activation in
       let above = limit_above g floors m.world.memory m.world.bound m.callers l.callers m.routine (l.top.registers result_address.0) l.limit l.room m.charged s.callers in
@@ -149,5 +149,5 @@ module _ (g : Setting) where
       ap₂ (λ r b. block_of g.low r (b + place_of_error e)) a.same a.floor.fits.errors ∙ a.floor.expanded.errors e in (
         runs.to,
         goes_from g 5 (at l f (block_of g.low l.top.routine (error_block_of (here m floors).frame.bank e).0)) (at l f (error_code (number_of_error e) (3 + place_of_error e))) runs.to (ap (at l f) code) runs.goes,
-        error_stands fit (record m { rest = rest }) e runs.to runs.ending (runs.output ∙ s.output) (runs.errors ∙ ap (λ x. x ++ error_line (number_of_error e)) s.errors) (runs.input ∙ s.input),
+        error_stands fit (record m { work = rest }) e runs.to runs.ending (runs.output ∙ s.output) (runs.errors ∙ ap (λ x. x ++ error_line (number_of_error e)) s.errors) (runs.input ∙ s.input),
       )

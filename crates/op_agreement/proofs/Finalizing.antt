@@ -22,12 +22,14 @@ use Rattle.op_low.specs.declared.code.Block.{Block as LowBlock}
 use Rattle.op_low.specs.declared.code.Routine.{Routine as LowRoutine}
 use Rattle.op_low.specs.declared.instruction.Instruction.TheVariants.{Alu, Branch, Const, Exit, Jump, Store}
 use Rattle.op_low.specs.declared.instruction.Instruction.{Instruction as LowInstruction}
+use Rattle.op_meaning.specs.Calls.{begun as begun_part, caller_of}
+use Rattle.op_meaning.specs.Ending.{closed}
 use Rattle.op_meaning.specs.Frames.{Pending, closing, finalize}
 use Rattle.op_meaning.specs.Items.{nowhere}
 use Rattle.op_meaning.specs.Values.{Holder, Place, Value, local}
 use Rattle.op_meaning.specs.World.{World, Running as GoingOn}
 use Rattle.op_mir.proofs.PlainLemmas.{no_more}
-use Rattle.op_mir.specs.Machine.{MirCaller, MirState, block_at, charge_between, mir_acted, mir_begun, mir_caller_of, mir_closed, mir_cost, mir_cost_by, mir_effort, mir_step, mir_step_by, mir_stepped, tables}
+use Rattle.op_mir.specs.Machine.{MirCaller, MirState, block_at, charge_between, code_rules, mir_acted, mir_cost, mir_cost_by, mir_effort, mir_step, mir_step_by, mir_stepped, tables}
 use Rattle.op_mir.specs.View.{routine_at}
 use Rattle.op_mir.specs.declared.code.Mir.{Mir}
 use Rattle.op_mir.specs.declared.code.Routine.{Routine}
@@ -104,10 +106,10 @@ module _ (g : Setting) (fit : IsFitting g) (closes : has_closing g.core ≡ true
 
 -- ---- the step above
 
-pub closing_step : (g : Setting) (m : MirState) (status : ℕ) (pending : List Pending) → m.world.ending ≡ GoingOn → m.frames ≡ closing status ∷ [] → m.world.raised ≡ None → m.pending ≡ pending → mir_step (managed g) m ≡ mir_closed (managed g) status pending m
+pub closing_step : (g : Setting) (m : MirState) (status : ℕ) (pending : List Pending) → m.world.ending ≡ GoingOn → m.frames ≡ closing status ∷ [] → m.world.raised ≡ None → m.pending ≡ pending → mir_step (managed g) m ≡ closed (code_rules (managed g)) status pending m
 unfolding mir_step mir_step_by mir_stepped mir_acted
 closing_step g m status pending ending frames raised is =
-    ap (λ x. mir_step_by (managed g) x m) ending ∙ ap (λ x. mir_stepped (managed g) x m) raised ∙ ap (λ x. mir_acted (managed g) x m) frames ∙ ap (λ x. mir_closed (managed g) status x m) is
+    ap (λ x. mir_step_by (managed g) x m) ending ∙ ap (λ x. mir_stepped (managed g) x m) raised ∙ ap (λ x. mir_acted (managed g) x m) frames ∙ ap (λ x. closed (code_rules (managed g)) status x m) is
 
 module _ (g : Setting) (fit : IsFitting g) (m : MirState) (l : State) (status : ℕ) (ending : m.world.ending ≡ GoingOn) (frames : m.frames ≡ closing status ∷ []) (s : ClosingGoesOn g status m l) where
   abbrev base : State
@@ -151,7 +153,7 @@ module _ (g : Setting) (fit : IsFitting g) (m : MirState) (l : State) (status : 
     abbrev taken : MirState
     taken = record m { pending = due_parts all_parts n }
 
-    step_is : mir_step (managed g) m ≡ mir_begun (managed g) f.0 nowhere [] taken
+    step_is : mir_step (managed g) m ≡ begun_part (code_rules (managed g)) f.0 nowhere m.work [] taken
     step_is = closing_step g m status (finalize f ∷ others) ending frames s.stays.plain.raised pending_is
 
     -- ---- the part is due no more
@@ -163,7 +165,7 @@ module _ (g : Setting) (fit : IsFitting g) (m : MirState) (l : State) (status : 
     lower = having s.lower s.lower.top.registers s.lower.top.now fewer
 
     stays : Stays g s.floors taken lower
-    stays = stays_counted g fit s.some s.floors m s.lower s.stays others are_due m.rest s.lower.top.registers s.lower.top.now (λ r low. refl) s.stays.activation.kept.temporaries
+    stays = stays_counted g fit s.some s.floors m s.lower s.stays others are_due m.work s.lower.top.registers s.lower.top.now (λ r low. refl) s.stays.activation.kept.temporaries
 
     abbrev charge : ℕ
     charge = charge_of g.mir f.0
@@ -299,7 +301,7 @@ module _ (g : Setting) (fit : IsFitting g) (m : MirState) (l : State) (status : 
       low_callers = closing_caller ∷ s.ended ∷ s.lower.callers
 
       abbrev above_caller : MirCaller
-      above_caller = mir_caller_of taken nowhere
+      above_caller = caller_of taken nowhere m.work
 
       abbrev floor_new : Floor
       floor_new = record { number = f.0; routine = x; frame = frame_of g.core f.0 x; base = lower.limit }
@@ -443,11 +445,12 @@ module _ (g : Setting) (fit : IsFitting g) (m : MirState) (l : State) (status : 
       begun_above = record {
         world = world_begun g.core f.0 (suc (length m.callers)) [] m.world;
         routine = f.0;
-        rest = block_at ((managed g).blocks f.0) 0;
+        work = block_at ((managed g).blocks f.0) 0;
         frames = [];
         callers = above_caller ∷ m.callers;
         pending = due_parts all_parts n;
         charged = m.charged + (managed g).charge f.0;
+        counts = tt;
       }
 
       abbrev begun_in : World → MirState

@@ -84,7 +84,7 @@ module _ (g : Setting) where
         more = more;
         states = subst (StandsFor g (mir_step (managed g) m)) (sym (run_counted g (suc more) l ∙ ends)) (due, c.stands);
         traces = subst (SameBytes (mir_shows (managed g) m)) (sym (trace_counted (suc more) l))
-            (same_bytes g.core (looks_on m.rest m.frames) m.world (mir_step (managed g) m).world l c.to (trace (low_machine g.low g.placement) (suc more) l) same.output same.errors after.output after.errors
+            (same_bytes g.core (looks_on m.work m.frames) m.world (mir_step (managed g) m).world l c.to (trace (low_machine g.low g.placement) (suc more) l) same.output same.errors after.output after.errors
             (subst (λ k. Grows l k (trace (low_machine g.low g.placement) (suc more) l)) ends (run_grows g.low g.placement (suc more) l)) (ap (λ n. list_any is_read (trace (low_machine g.low g.placement) n l)) (sym steps) ∙ c.goes.unread));
         within = subst (λ n. spent (counted g) n l ≤ most_for_one * mir_cost (managed g) m) steps c.goes.within;
         moments = λ j less. subst (λ (k : State). k.ending ≢ Bad) (sym (run_counted g j l)) (fine_before j (suc more) l c.to (omega arith) ends after.fine);

@@ -15,8 +15,9 @@ use Rattle.op_low.specs.declared.instruction.Instruction.{Instruction as LowInst
 use Rattle.op_meaning.specs.Calls.{received, result_in}
 use Rattle.op_meaning.specs.Expressions.{result_of}
 use Rattle.op_meaning.specs.Items.{Receiver}
+use Rattle.op_meaning.specs.Machine.{returned}
 use Rattle.op_meaning.specs.World.{Running as GoingOn}
-use Rattle.op_mir.specs.Machine.{MirCaller, MirState, execute, mir_cost, mir_returned, mir_step, tables}
+use Rattle.op_mir.specs.Machine.{MirCaller, MirState, execute, mir_cost, mir_step, tables}
 use Rattle.op_mir.specs.declared.instruction.Instruction.TheVariants.{Return}
 use Rattle.op_mir.specs.declared.instruction.Instruction.{Instruction}
 use Rattle.op_rt_text.specs.Names.{block_id}
@@ -56,11 +57,12 @@ module _ (g : Setting) (fit : IsFitting g) (m : MirState) (l : State) (floors : 
   back = record {
     world = record m.world { temps = c.temps; made = c.made; depth = m.world.depth - 1 };
     routine = c.routine;
-    rest = c.rest;
+    work = c.work;
     frames = c.frames;
     callers = cs;
     pending = m.pending;
     charged = under;
+    counts = tt;
   }
 
   levels : length m.callers ≡ suc (length cs)
@@ -92,12 +94,12 @@ module _ (g : Setting) (fit : IsFitting g) (m : MirState) (l : State) (floors : 
   back_step : mir_step (managed g) m ≡ back
   unfolding execute
   back_step =
-      let behind : MirState = record m { rest = rest_above g m l floors Return is next } in
+      let behind : MirState = record m { work = rest_above g m l floors Return is next } in
       let w = record m.world { temps = c.temps; made = c.made; depth = m.world.depth - 1 } in
       let value = result_in (tables (managed g)) m.routine m.world in
       let charged : m.charged - (managed g).charge m.routine ≡ under = omega arith in
-      step_here g fit m l floors Return is next ∙ ap (λ xs. mir_returned (managed g) xs behind) above
-      ∙ ap₂ (λ (r : Receiver) (n : ℕ). let x : MirState = record { world = received (tables (managed g)) r value w; routine = c.routine; rest = c.rest; frames = c.frames; callers = cs; pending = m.pending; charged = n } in x) waits.receiver charged
+      step_here g fit m l floors Return is next ∙ ap (λ xs. returned (tables (managed g)) xs behind) above
+      ∙ ap₂ (λ (r : Receiver) (n : ℕ). let x : MirState = record { world = received (tables (managed g)) r value w; routine = c.routine; work = c.work; frames = c.frames; callers = cs; pending = m.pending; charged = n; counts = tt } in x) waits.receiver charged
 
   -- ---- the steps below
 

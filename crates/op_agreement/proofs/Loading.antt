@@ -86,7 +86,7 @@ module _ (g : Setting) (fit : IsFitting g) (m : MirState) (l : State) (floors : 
       fits.composites v variable (ap (shape_of g.core) type ∙ step_composite g.core typed.from of st ss typed.reaches)
 
   -- an error of an index
-  pub index_fails : (i : Instruction) (next : NextIs i) (least most : ℕ) (from : State) → l ≡ from → Failed g fit m l floors next.stays least most from → most + 5 ≤ most_for_one * mir_cost (managed g) m → mir_step (managed g) m ≡ record m { world = failed g.core 201 m.world; rest = rest_above g m l floors i is next } → Comes g m l
+  pub index_fails : (i : Instruction) (next : NextIs i) (least most : ℕ) (from : State) → l ≡ from → Failed g fit m l floors next.stays least most from → most + 5 ≤ most_for_one * mir_cost (managed g) m → mir_step (managed g) m ≡ record m { world = failed g.core 201 m.world; work = rest_above g m l floors i is next } → Comes g m l
   index_fails i next least most from same fails few step =
       let (k, ends, stands) = error_ends g fit floors m l next.stays RangeCheck fails.h (rest_above g m l floors i is next) in
       record {
@@ -130,7 +130,7 @@ module _ (g : Setting) (fit : IsFitting g) (m : MirState) (l : State) (floors : 
         by : (o : Option Place) → place_meant m.world (view_path path) ≡ o → l ≡ at l l.top.registers (place_code g.core frame near path.root path.steps (scratch_of frame.bank 0) ++ (LoadWord (load_op kind) (register_of frame.bank to) (place_of g.core frame near path.root path.steps (scratch_of frame.bank 0)).base (pos (place_of g.core frame near path.root path.steps (scratch_of frame.bank 0)).offset) ∷ rest_below g m l floors (Act (Load to kind path) landing) is next)) → PlaceTo g fit m l floors next.stays (fewest_steps (place_code g.core frame near path.root path.steps (scratch_of frame.bank 0))) (place_most path) (at l l.top.registers (place_code g.core frame near path.root path.steps (scratch_of frame.bank 0) ++ (LoadWord (load_op kind) (register_of frame.bank to) (place_of g.core frame near path.root path.steps (scratch_of frame.bank 0)).base (pos (place_of g.core frame near path.root path.steps (scratch_of frame.bank 0)).offset) ∷ rest_below g m l floors (Act (Load to kind path) landing) is next))) l.top.registers (scratch_of frame.bank 0) (place_of g.core frame near path.root path.steps (scratch_of frame.bank 0)) (LoadWord (load_op kind) (register_of frame.bank to) (place_of g.core frame near path.root path.steps (scratch_of frame.bank 0)).base (pos (place_of g.core frame near path.root path.steps (scratch_of frame.bank 0)).offset) ∷ rest_below g m l floors (Act (Load to kind path) landing) is next) next.fine.1.0 o → Comes g m l
         by None e begins fails =
             index_fails (Act (Load to kind path) landing) next _ (place_most path) _ begins fails (afford g fit m l floors (Act (Load to kind path) landing) is next (λ light. light) (place_most path + 5) (omega arith))
-            (step_here g fit m l floors (Act (Load to kind path) landing) is next ∙ ap (λ o. record m { world = at_place g.core o (λ p. with_number to.0 (number_in (value_at m.world p)) m.world) m.world; rest = rest_above g m l floors (Act (Load to kind path) landing) is next }) e)
+            (step_here g fit m l floors (Act (Load to kind path) landing) is next ∙ ap (λ o. record m { world = at_place g.core o (λ p. with_number to.0 (number_in (value_at m.world p)) m.world) m.world; work = rest_above g m l floors (Act (Load to kind path) landing) is next }) e)
         by (Some q) e begins reached =
             let typed = next.fine.1.2 in
             let small = small_last g.core typed.from next.fine.1.0 (map view_step path.steps) typed.reaches typed.small in
@@ -145,7 +145,7 @@ module _ (g : Setting) (fit : IsFitting g) (m : MirState) (l : State) (floors : 
               goes = goes_within g 1 (most_for_one * mir_cost (managed g) m) l (at l h2 rest)
                   (goes_from g 1 l _ (at l h2 rest) begins (goes_then g _ 1 1 _ (at l reached.h (LoadWord (load_op kind) (register_of frame.bank to) spot.base (pos spot.offset) ∷ rest)) (at l h2 rest) (omega arith) reached.goes loads))
                   (afford g fit m l floors (Act (Load to kind path) landing) is next (λ light. light) (place_most path + 1) (omega arith));
-              stands = subst (λ k. Stands g k (at l h2 rest)) (sym (step_here g fit m l floors (Act (Load to kind path) landing) is next ∙ ap (λ o. record m { world = at_place g.core o (λ p. with_number to.0 (number_in (value_at m.world p)) m.world) m.world; rest = rest_above g m l floors (Act (Load to kind path) landing) is next }) e))
+              stands = subst (λ k. Stands g k (at l h2 rest)) (sym (step_here g fit m l floors (Act (Load to kind path) landing) is next ∙ ap (λ o. record m { world = at_place g.core o (λ p. with_number to.0 (number_in (value_at m.world p)) m.world) m.world; work = rest_above g m l floors (Act (Load to kind path) landing) is next }) e))
                   (number_stands g m l floors (Act (Load to kind path) landing) is next to n h2 (behind_act next.on) (set_gives reached.h v n word reached.kept));
             }
           where

@@ -60,7 +60,7 @@ module _ (g : Setting) (fit : IsFitting g) (m : MirState) (l : State) (floors : 
     rest_low = rest_below g m l floors (Act (Look path) landing) is next
 
     abbrev looked : Option Place → MirState
-    looked o = record m { world = at_place g.core o (λ p. m.world) m.world; rest = rest_above g m l floors (Act (Look path) landing) is next }
+    looked o = record m { world = at_place g.core o (λ p. m.world) m.world; work = rest_above g m l floors (Act (Look path) landing) is next }
 
     look_step : (o : Option Place) → place_meant m.world (view_path path) ≡ o → mir_step (managed g) m ≡ looked o
     unfolding execute perform

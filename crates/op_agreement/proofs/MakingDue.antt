@@ -63,7 +63,7 @@ module _ (g : Setting) (fit : IsFitting g) (m : MirState) (l : State) (floors : 
   pub first_is : f ∷ dues_in (rest_above g m l floors (MakeDue f) is next) ≡ drop (length m.pending) (finalizations g.core)
   first_is =
       let open_ : NoneCloses m.frames m.callers = subst (NoneCloses m.frames) (sym main_alone) next.frames in
-      sym (ap (λ cs. dues_in (lowest_rest m.rest cs)) main_alone ∙ ap dues_in next.above) ∙ due open_
+      sym (ap (λ cs. dues_in (lowest_rest m.work cs)) main_alone ∙ ap dues_in next.above) ∙ due open_
 
   abbrev found : (slice_get (finalizations g.core) (length m.pending) ≡ Some f) × (length m.pending < length (finalizations g.core)) × (drop (suc (length m.pending)) (finalizations g.core) ≡ dues_in (rest_above g m l floors (MakeDue f) is next))
   found = drop_first (finalizations g.core) (dues_in (rest_above g m l floors (MakeDue f) is next)) f (length m.pending) (sym first_is)
@@ -138,7 +138,7 @@ module _ (g : Setting) (fit : IsFitting g) (m : MirState) (l : State) (floors : 
       let adding = AluImm Addi count count (pos 1) ∷ storing in
       let loading = Load Lw count word (pos 0) ∷ adding in
       let from = at l l.top.registers (Address word (due_word g.core) ∷ loading) in
-      let m2 : MirState = record m { rest = rest_above g m l floors (MakeDue f) is next; pending = finalize f ∷ m.pending } in
+      let m2 : MirState = record m { work = rest_above g m l floors (MakeDue f) is next; pending = finalize f ∷ m.pending } in
       let one = due_addressed g fit l bottom l.top.registers word loading in
       let two = due_loads g fit l bottom addressed count word adding (g.stack + length m.pending) word_there (s.due closes) in
       let four = due_stores g fit l bottom added count word rest (g.stack + length more) word_stays count_there in

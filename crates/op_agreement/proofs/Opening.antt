@@ -11,17 +11,18 @@ use Rattle.op_expand.specs.Calls.{runtime}
 use Rattle.op_expand.specs.Frames.{frame_of}
 use Rattle.op_expand.specs.Routines.{most_charge}
 use Rattle.op_low.specs.State.{Caller, State, routine_of, space}
-use Rattle.op_meaning.specs.Calls.{entered}
+use Rattle.op_meaning.specs.Calls.{called_with, caller_of, entered}
 use Rattle.op_meaning.specs.Values.{Value, Holder, Place, local}
 use Rattle.op_meaning.specs.World.{World}
 use Rattle.op_mir.proofs.PlainLemmas.{IfNameless, nameless_all}
-use Rattle.op_mir.specs.Machine.{MirCaller, MirState, block_at, execute, mir_called_with, mir_caller_of, mir_fails, mir_step, tables, charge_between, mir_cost, mir_effort}
+use Rattle.op_mir.specs.Machine.{MirCaller, MirState, block_at, execute, mir_step, tables, charge_between, mir_cost, mir_effort, code_rules}
 use Rattle.op_mir.specs.View.{routine_at, view_given, view_receiver}
 use Rattle.op_mir.specs.declared.code.Routine.{Routine}
 use Rattle.op_core.specs.declared.ids.RoutineId.{RoutineId}
 use Rattle.op_core.specs.declared.program.Core.{Core}
 use Rattle.op_core.specs.declared.routine.Variable.{Variable}
 use Rattle.op_meaning.specs.Costs.{given_bytes}
+use Rattle.op_meaning.specs.Frames.{fails}
 use Rattle.op_meaning.specs.Shapes.{shape_of}
 use Rattle.op_mir.specs.declared.instruction.Call.{Call as Operands}
 use Rattle.op_mir.specs.declared.instruction.Given.{Given}
@@ -84,7 +85,7 @@ floors_below floors depth f d low = let t : nat_eq d (suc depth) ≡ false = gri
 module _ (g : Setting) (fit : IsFitting g) (m : MirState) (l : State) (floors : ℕ → Floor) (callee : RoutineId) (call : Operands) (is : List Instruction) (next : Next g m l floors (Call callee call) is) (b : Begins g m l floors callee.0 call (rest_below g m l floors (Call callee call) is next)) where
   -- the caller above, and the one below
   abbrev pub caller_above : MirCaller
-  caller_above = mir_caller_of (record m { rest = rest_above g m l floors (Call callee call) is next }) (view_receiver call.receiver)
+  caller_above = caller_of m (view_receiver call.receiver) (rest_above g m l floors (Call callee call) is next)
 
   abbrev pub caller_below : Caller
   caller_below = record { activation = record l.top { registers = b.registers; now = rest_below g m l floors (Call callee call) is next }; to = b.to; landing = None }
@@ -107,11 +108,12 @@ module _ (g : Setting) (fit : IsFitting g) (m : MirState) (l : State) (floors : 
   begun_above = record {
     world = world_begun g.core callee.0 (suc (length m.callers)) b.given m.world;
     routine = callee.0;
-    rest = block_at ((managed g).blocks callee.0) 0;
+    work = block_at ((managed g).blocks callee.0) 0;
     frames = [];
     callers = caller_above ∷ m.callers;
     pending = m.pending;
     charged = m.charged + (managed g).charge callee.0;
+    counts = tt;
   }
 
   abbrev begun_in : World → MirState
@@ -121,10 +123,10 @@ module _ (g : Setting) (fit : IsFitting g) (m : MirState) (l : State) (floors : 
   pub begun_step : mir_step (managed g) m ≡ begun_above
   unfolding execute
   begun_step =
-      let behind = record m { rest = rest_above g m l floors (Call callee call) is next } in
+      let behind = record m { work = rest_above g m l floors (Call callee call) is next } in
       step_here g fit m l floors (Call callee call) is next
-      ∙ ap (λ o. mir_called_with (managed g) callee.0 (view_receiver call.receiver) o behind) b.handed
-      ∙ ap (λ t. if t then mir_fails (managed g) 202 behind else begun_in (entered (tables (managed g)) callee.0 b.given m.world)) b.charged
+      ∙ ap (λ o. called_with (code_rules (managed g)) callee.0 (view_receiver call.receiver) behind.work o behind) b.handed
+      ∙ ap (λ t. if t then fails (tables (managed g)) 202 behind else begun_in (entered (tables (managed g)) callee.0 b.given m.world)) b.charged
       ∙ ap begun_in (entered_is g.core (tables (managed g)) refl callee.0 b.given m.world ∙ ap (λ d. world_begun g.core callee.0 (suc d) b.given m.world) next.stays.depth)
 
   -- ---- the floor of the routine

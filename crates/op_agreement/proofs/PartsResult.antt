@@ -113,7 +113,7 @@ module _ (g : Setting) (fit : IsFitting g) (m : MirState) (l : State) (floors : 
   -- ---- the step of managed code, as one that puts the value first
 
   abbrev put_above : MirState
-  put_above = record m { world = with_value (all_of (temporary (length cs) type n)) value m.world; rest = m.rest }
+  put_above = record m { world = with_value (all_of (temporary (length cs) type n)) value m.world; work = m.work }
 
   abbrev put_below : (ℕ → ℕ) → State
   put_below memory = having l l.top.registers l.top.now memory
@@ -156,7 +156,7 @@ module _ (g : Setting) (fit : IsFitting g) (m : MirState) (l : State) (floors : 
       let step : mir_step (managed g) m ≡ gone_above g fit put_above (put_below memory) floors s c cs lc lcs above lows w c.temps =
       return_step g fit m l floors is next c cs lc lcs above lows of some has
       ∙ ap (λ r. returned g fit m l floors is next c cs lc lcs above lows of some has r value) receives
-      ∙ ap₂ (λ (d u : ℕ). let x : MirState = record { world = with_value (all_of (temporary d type n)) value (record m.world { temps = c.temps; made = c.made; depth = m.world.depth - 1 }); routine = c.routine; rest = c.rest; frames = c.frames; callers = cs; pending = m.pending; charged = u } in x) depth under in
+      ∙ ap₂ (λ (d u : ℕ). let x : MirState = record { world = with_value (all_of (temporary d type n)) value (record m.world { temps = c.temps; made = c.made; depth = m.world.depth - 1 }); routine = c.routine; work = c.work; frames = c.frames; callers = cs; pending = m.pending; charged = u; counts = tt } in x) depth under in
       record {
         to = k;
         goes = goes_within g 1 (most_for_one * mir_cost (managed g) m) l k (goes_then g 0 1 1 l (having l f (LowReturn left ∷ rest) memory) k (omega arith) goes (low_returns g fit put_above (put_below memory) floors s c cs lc lcs above lows w f memory left rest)) result_paid;
@@ -234,7 +234,7 @@ module _ (g : Setting) (fit : IsFitting g) (m : MirState) (l : State) (floors : 
         let end = fit.placed.top in
         let h = put ready.h target.free 0 in
         done l.memory
-        (stays_nothing g fit m l floors s of small place (l.top.registers result_address.0) place_is none value m.rest l.top.registers l.top.now put_plain (λ r low. refl) s.activation.kept.temporaries)
+        (stays_nothing g fit m l floors s of small place (l.top.registers result_address.0) place_is none value m.work l.top.registers l.top.now put_plain (λ r low. refl) s.activation.kept.temporaries)
         h
         (goes_within g 0 (200 + 6 * size_in g.core of) l (at l h (LowReturn left ∷ rest)) (goes_then g 0 1 0 l (at l ready.h (copies ++ (LowReturn left ∷ rest))) (at l h (LowReturn left ∷ rest)) (omega arith) ready.goes
         (none_goes g l (omega arith) words size source target ready.h (LowReturn left ∷ rest) none)) (omega arith))
@@ -254,7 +254,7 @@ module _ (g : Setting) (fit : IsFitting g) (m : MirState) (l : State) (floors : 
         (all_whole g fit m l floors s of small q place a b one place_is more)
         fit.placed.runtime (room_there g fit m l floors s l refl refl) (omega arith) (λ long. (refl, refl)) in
         done it.memory
-        (stays_copied g fit m l floors s of small q place a b one place_is more it.memory it.copied m.rest l.top.registers l.top.now put_plain (λ r low. refl) s.activation.kept.temporaries)
+        (stays_copied g fit m l floors s of small q place a b one place_is more it.memory it.copied m.work l.top.registers l.top.now put_plain (λ r low. refl) s.activation.kept.temporaries)
         it.h
         (goes_within g 0 (200 + 6 * size_in g.core of) l (having l it.h (LowReturn left ∷ rest) it.memory) (goes_then g 0 1 0 l (at l ready.h (copies ++ (LowReturn left ∷ rest))) (having l it.h (LowReturn left ∷ rest) it.memory) (omega arith) ready.goes it.goes) (omega arith))
       where

@@ -144,7 +144,7 @@ module _ (g : Setting) (fit : IsFitting g) (m : MirState) (l : State) (floors : 
   begins = begins_here g fit m l floors pick is next (front ++ Address via (literal number) ∷ Alu Add place via place ∷ LoadWord Lbu (register_of bank to) place (pos 0) ∷ []) refl
 
   abbrev picked_by : Bool → MirState
-  picked_by b = record m { world = if b then with_number to.0 (pos (slice_index text (nat_abs (n -ℤ pos 1)))) m.world else failed g.core 201 m.world; rest = rest_above g m l floors pick is next }
+  picked_by b = record m { world = if b then with_number to.0 (pos (slice_index text (nat_abs (n -ℤ pos 1)))) m.world else failed g.core 201 m.world; work = rest_above g m l floors pick is next }
 
   -- managed code picks the Char, or fails
   step_above : mir_step (managed g) m ≡ picked_by (between (pos 1) (pos (length text)) n)
@@ -152,7 +152,7 @@ module _ (g : Setting) (fit : IsFitting g) (m : MirState) (l : State) (floors : 
   step_above = step_here g fit m l floors pick is next
 
   -- the literal's Char is the number of the temporary
-  char_stands : (x : ℕ) → x < length text → far ≡ x → Goes g 1 3 l (at l tested tail) → mir_step (managed g) m ≡ record m { world = with_number to.0 (pos (slice_index text x)) m.world; rest = rest_above g m l floors pick is next } → Comes g m l
+  char_stands : (x : ℕ) → x < length text → far ≡ x → Goes g 1 3 l (at l tested tail) → mir_step (managed g) m ≡ record m { world = with_number to.0 (pos (slice_index text x)) m.world; work = rest_above g m l floors pick is next } → Comes g m l
   unfolding action_fits act put run Rattle.op_low.specs.Machine.step Rattle.op_low.specs.Machine.step_by_ending Rattle.op_low.specs.Machine.done spent cost cost_by Rattle.op_simulation.specs.System.trace Rattle.op_low.specs.Machine.shows Rattle.op_low.specs.Machine.shown_by
   char_stands x inside far_is goes step =
       let s = next.stays in

@@ -31,7 +31,7 @@ module _ (g : Setting) (fit : IsFitting g) (m : MirState) (l : State) (floors : 
   pub cost_is : mir_cost (managed g) m ≡ mir_effort (managed g) m (mir_step (managed g) m)
   cost_is = ap (λ e. mir_cost_by (managed g) m e) next.ending
 
-  pub bytes_are : next_bytes g.core m.routine m.rest m.frames ≡ bytes_moved
+  pub bytes_are : next_bytes g.core m.routine m.work m.frames ≡ bytes_moved
   bytes_are =
       ap₂ (λ r f. next_bytes g.core m.routine r f) next.above next.frames
       ∙ ap (λ r. instr_bytes g.core r (view_instruction g.core (here m floors).number i)) (sym next.stays.activation.number)

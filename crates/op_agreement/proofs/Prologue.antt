@@ -103,11 +103,12 @@ module _ (g : Setting) (fit : IsFitting g) (m : MirState) (l : State) (floors ne
   above_with v = record {
     world = record world { memory = v };
     routine = r;
-    rest = block_at ((managed g).blocks r) 0;
+    work = block_at ((managed g).blocks r) 0;
     frames = [];
     callers = c ∷ m.callers;
     pending = m.pending;
     charged = m.charged + (managed g).charge r;
+    counts = tt;
   }
 
   kept_received : (k : ℕ) (code rest : List LowInstruction) (lk : State) → code ≡ [] → is_stored (home_at floor_here.frame.homes (record { 0 = k })) ≡ false → HasReceived k (code ++ rest) lk → Receives g (HasReceived (k + 1) rest) 0 lk

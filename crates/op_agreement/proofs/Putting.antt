@@ -143,7 +143,7 @@ module _ (g : Setting) (fit : IsFitting g) (m : MirState) (l : State) (floors : 
   pub record Puts (x : Value) (from : State) : Type 0 where
     pub to : State
     pub goes : Goes g 1 4 from to
-    pub stays : Stays g floors (record m { world = with_value whole_place x m.world; rest = above }) to
+    pub stays : Stays g floors (record m { world = with_value whole_place x m.world; work = above }) to
     pub now : to.top.now ≡ rest
 
   -- a register's number is stored there, and is the value

@@ -29,9 +29,10 @@ use Rattle.op_low.specs.declared.instruction.Instruction.{Instruction as LowInst
 use Rattle.op_meaning.specs.Calls.{received, result_in}
 use Rattle.op_meaning.specs.Expressions.{result_of}
 use Rattle.op_meaning.specs.Items.{Receiver, nowhere, to_temp, to_place}
+use Rattle.op_meaning.specs.Machine.{returned as goes_back}
 use Rattle.op_meaning.specs.Shapes.{composite, result_of_routine, shape_of, single}
 use Rattle.op_meaning.specs.Values.{Value, all_of, local, number_in}
-use Rattle.op_mir.specs.Machine.{MirCaller, MirState, execute, mir_returned, mir_step, tables, mir_cost}
+use Rattle.op_mir.specs.Machine.{MirCaller, MirState, execute, mir_step, tables, mir_cost}
 use Rattle.op_mir.specs.View.{view_receiver}
 use Rattle.op_mir.specs.declared.ids.LocalId.{LocalId}
 use Rattle.op_mir.specs.declared.instruction.Instruction.TheVariants.{Return}
@@ -98,11 +99,12 @@ module _ (g : Setting) (fit : IsFitting g) (m : MirState) (l : State) (floors : 
   returned receiver x = record {
     world = received (tables (managed g)) receiver x (record m.world { temps = c.temps; made = c.made; depth = m.world.depth - 1 });
     routine = c.routine;
-    rest = c.rest;
+    work = c.work;
     frames = c.frames;
     callers = cs;
     pending = m.pending;
     charged = caller.under;
+    counts = tt;
   }
 
   -- where the caller gets what is returned
@@ -119,10 +121,10 @@ module _ (g : Setting) (fit : IsFitting g) (m : MirState) (l : State) (floors : 
       let charge = caller.charge in
       let charged : m.charged - (managed g).charge m.routine ≡ caller.under = omega arith in
       let s = next.stays in
-      let behind : MirState = record m { rest = rest_above g m l floors Return is next } in
+      let behind : MirState = record m { work = rest_above g m l floors Return is next } in
       let value_is : result_in (tables (managed g)) m.routine m.world ≡ value = ap₂ (λ d r. m.world.memory (local d (result_of_routine g.core r))) s.depth (sym s.activation.number) in
-      step_here g fit m l floors Return is next ∙ ap (λ xs. mir_returned (managed g) xs behind) above
-      ∙ ap₂ (λ (x : Value) (n : ℕ). let y : MirState = record { world = received (tables (managed g)) c.receiver x (record m.world { temps = c.temps; made = c.made; depth = m.world.depth - 1 }); routine = c.routine; rest = c.rest; frames = c.frames; callers = cs; pending = m.pending; charged = n } in y) value_is charged
+      step_here g fit m l floors Return is next ∙ ap (λ xs. goes_back (tables (managed g)) xs behind) above
+      ∙ ap₂ (λ (x : Value) (n : ℕ). let y : MirState = record { world = received (tables (managed g)) c.receiver x (record m.world { temps = c.temps; made = c.made; depth = m.world.depth - 1 }); routine = c.routine; work = c.work; frames = c.frames; callers = cs; pending = m.pending; charged = n; counts = tt } in y) value_is charged
 
   -- the code of the return
   pub result_code_is : code_for g.core g.mir frame Return ≡ result_code g.core frame of variable

@@ -19,9 +19,10 @@ use Rattle.op_low.specs.State.{Caller, State, Running, routine_of, space, with_v
 use Rattle.op_low.specs.declared.ids.VirtualRegister.{VirtualRegister}
 use Rattle.op_meaning.specs.Calls.{received, result_in}
 use Rattle.op_meaning.specs.Items.{Receiver, nowhere, to_temp, to_place}
+use Rattle.op_meaning.specs.Machine.{returned}
 use Rattle.op_meaning.specs.Values.{Value, number_in}
 use Rattle.op_meaning.specs.World.{Running as GoingOn}
-use Rattle.op_mir.specs.Machine.{MirCaller, MirState, execute, mir_returned, mir_step, tables, mir_cost}
+use Rattle.op_mir.specs.Machine.{MirCaller, MirState, execute, mir_step, tables, mir_cost}
 use Rattle.op_mir.specs.Plain.{IsNameless}
 use Rattle.op_mir.specs.View.{view_receiver}
 use Rattle.op_mir.specs.declared.instruction.Instruction.TheVariants.{Return}
@@ -43,17 +44,18 @@ use Rattle.op_agreement.specs.Stands.{ActivationStands, AreStillDue, CallersStan
 use Rattle.op_agreement.specs.Steps.{Comes, most_for_one}
 use Rattle.op_agreement.specs.Typed.{IsTypedReceiver}
 
-module _ (g : Setting) (fit : IsFitting g) (m : MirState) (l : State) (floors : ℕ → Floor) (s : Stays g floors m l) (c : MirCaller) (cs : List MirCaller) (lc : Caller) (lcs : List Caller) (above : m.callers ≡ c ∷ cs) (below spare under : ℕ) (frames : c.frames ≡ []) (nameless : (t : ℕ) → IsNameless (c.temps t)) (made : c.made ≡ []) (position : Position g (floors (length cs)) c.rest lc.activation.now) (activation : ActivationStands g floors (length cs) m.world.memory m.world.bound c.temps c.routine lc.activation below spare under) (callers : CallersStand g floors m.world.memory m.world.bound cs lcs c.routine (lc.activation.registers result_address.0) below spare under) (room : below ≤ l.limit) where
+module _ (g : Setting) (fit : IsFitting g) (m : MirState) (l : State) (floors : ℕ → Floor) (s : Stays g floors m l) (c : MirCaller) (cs : List MirCaller) (lc : Caller) (lcs : List Caller) (above : m.callers ≡ c ∷ cs) (below spare under : ℕ) (frames : c.frames ≡ []) (nameless : (t : ℕ) → IsNameless (c.temps t)) (made : c.made ≡ []) (position : Position g (floors (length cs)) c.work lc.activation.now) (activation : ActivationStands g floors (length cs) m.world.memory m.world.bound c.temps c.routine lc.activation below spare under) (callers : CallersStand g floors m.world.memory m.world.bound cs lcs c.routine (lc.activation.registers result_address.0) below spare under) (room : below ≤ l.limit) where
   -- the state of managed code with these temporaries, and the one of low code with this value in a register
   abbrev back_above : (ℕ → Value) → MirState
   back_above temps = record {
     world = record m.world { temps = temps; made = c.made; depth = m.world.depth - 1 };
     routine = c.routine;
-    rest = c.rest;
+    work = c.work;
     frames = c.frames;
     callers = cs;
     pending = m.pending;
     charged = under;
+    counts = tt;
   }
 
   abbrev back_below : VirtualRegister → ℕ → State
@@ -116,7 +118,7 @@ module _ (g : Setting) (fit : IsFitting g) (m : MirState) (l : State) (floors : 
   rest = rest_below g m l floors Return is next
 
   abbrev behind_return : MirState
-  behind_return = record m { rest = rest_above g m l floors Return is next }
+  behind_return = record m { work = rest_above g m l floors Return is next }
 
   procedure_by : (cs : List MirCaller) (ls : List Caller) → m.callers ≡ cs → l.callers ≡ ls → CallersStand g floors m.world.memory m.world.bound cs ls m.routine (l.top.registers result_address.0) l.limit l.room m.charged → Comes g m l
   unfolding code_for execute act
@@ -148,8 +150,8 @@ module _ (g : Setting) (fit : IsFitting g) (m : MirState) (l : State) (floors : 
       let w = record m.world { temps = c.temps; made = c.made; depth = m.world.depth - 1 } in
       let value = result_in (tables (managed g)) m.routine m.world in
       let step : mir_step (managed g) m ≡ back =
-      step_here g fit m l floors Return is next ∙ ap (λ xs. mir_returned (managed g) xs behind_return) above
-      ∙ ap₂ (λ (r : Receiver) (n : ℕ). let x : MirState = record { world = received (tables (managed g)) r value w; routine = c.routine; rest = c.rest; frames = c.frames; callers = cs; pending = m.pending; charged = n } in x) goes_nowhere charged in
+      step_here g fit m l floors Return is next ∙ ap (λ xs. returned (tables (managed g)) xs behind_return) above
+      ∙ ap₂ (λ (r : Receiver) (n : ℕ). let x : MirState = record { world = received (tables (managed g)) r value w; routine = c.routine; work = c.work; frames = c.frames; callers = cs; pending = m.pending; charged = n; counts = tt } in x) goes_nowhere charged in
       let does : act g.low g.placement (LowReturn left) (at l l.top.registers rest) ≡ k =
       ap (λ xs. return_to g.low g.placement v xs (at l l.top.registers rest)) lows
       ∙ ap₂ (λ (x y : ℕ). let z : State = record l { top = with_value lc.to v lc.activation; callers = lcs; limit = x; room = y; ending = Running } in z) limit room in

@@ -35,7 +35,7 @@ pub record Next (g : Setting) (m : MirState) (l : State) (floors : ℕ → Floor
   pub stays : Stays g floors m l
   pub ending : m.world.ending ≡ GoingOn
   pub frames : m.frames ≡ []
-  pub above : m.rest ≡ view_instruction g.core (here m floors).number i ∷ map (view_instruction g.core (here m floors).number) is
+  pub above : m.work ≡ view_instruction g.core (here m floors).number i ∷ map (view_instruction g.core (here m floors).number) is
   pub below : l.top.now ≡ code_for g.core g.mir (here m floors).frame i ++ code_of g.core g.mir (here m floors).frame (literals_of g.core g.mir) is
   pub literals : AreLiterals (literals_of g.core g.mir) (instruction_literals g.core (here m floors).number i)
   pub others : AreLiterals (literals_of g.core g.mir) (flat_map (instruction_literals g.core (here m floors).number) is)
@@ -51,7 +51,7 @@ literals_split all [] ys are = (tt, are)
 literals_split all (x ∷ xs) ys (first, rest) = let (front, back) = literals_split all xs ys rest in ((first, front), back)
 
 -- the step of managed code is that of its next instruction
-pub step_is : (g : Setting) (m : MirState) (i : Instr) (rest : List Instr) → m.world.ending ≡ GoingOn → m.world.raised ≡ None → m.frames ≡ [] → m.rest ≡ i ∷ rest → mir_step (managed g) m ≡ execute (managed g) i (record m { rest = rest })
+pub step_is : (g : Setting) (m : MirState) (i : Instr) (rest : List Instr) → m.world.ending ≡ GoingOn → m.world.raised ≡ None → m.frames ≡ [] → m.work ≡ i ∷ rest → mir_step (managed g) m ≡ execute (managed g) i (record m { work = rest })
 unfolding mir_step mir_step_by mir_stepped mir_acted mir_done
 step_is g m i rest ending raised frames is =
     ap (λ e. mir_step_by (managed g) e m) ending ∙ ap (λ r. mir_stepped (managed g) r m) raised ∙ ap (λ f. mir_acted (managed g) f m) frames ∙ ap (λ r. mir_done (managed g) r m) is
@@ -82,7 +82,7 @@ module _ (g : Setting) (floors : ℕ → Floor) where
   }
 
 -- temporaries of the activation under way change, and nothing else
-pub stays_registers : (g : Setting) (floors : ℕ → Floor) (m : MirState) (l : State) (temps : ℕ → Value) (rest : List Instr) (f : ℕ → ℕ) (now : List LowInstruction) → SameVariables (here m floors) l.top.registers f → Temporaries (here m floors) temps f → ((t : ℕ) → IsNameless (temps t)) → Stays g floors m l → Stays g floors (record m { world = record m.world { temps = temps }; rest = rest }) (at l f now)
+pub stays_registers : (g : Setting) (floors : ℕ → Floor) (m : MirState) (l : State) (temps : ℕ → Value) (rest : List Instr) (f : ℕ → ℕ) (now : List LowInstruction) → SameVariables (here m floors) l.top.registers f → Temporaries (here m floors) temps f → ((t : ℕ) → IsNameless (temps t)) → Stays g floors m l → Stays g floors (record m { world = record m.world { temps = temps }; work = rest }) (at l f now)
 stays_registers g floors m l temps rest f now same are nameless s =
     let a = s.activation in
     let fits = a.floor.fits in
@@ -115,7 +115,7 @@ stays_registers g floors m l temps rest f now same are nameless s =
     }
 
 -- scratch registers of the activation under way change, and what it is to do
-pub stays_closing : (g : Setting) (floors : ℕ → Floor) (m : MirState) (l : State) (frames : List Frame) (rest : List Instr) (f : ℕ → ℕ) (now : List LowInstruction) → SameVariables (here m floors) l.top.registers f → Temporaries (here m floors) m.world.temps f → Stays g floors m l → Stays g floors (record m { rest = rest; frames = frames }) (at l f now)
+pub stays_closing : (g : Setting) (floors : ℕ → Floor) (m : MirState) (l : State) (frames : List Frame) (rest : List Instr) (f : ℕ → ℕ) (now : List LowInstruction) → SameVariables (here m floors) l.top.registers f → Temporaries (here m floors) m.world.temps f → Stays g floors m l → Stays g floors (record m { work = rest; frames = frames }) (at l f now)
 stays_closing g floors m l frames rest f now same are s =
     let a = s.activation in
     let fits = a.floor.fits in

@@ -3,14 +3,16 @@ use Rattle.std.proofs.Common.{◌≡◌, ℕ, ℤ, zero, suc, ◌+◌, List, [],
 use Rattle.std.specs.Prelude.{Bool, true, false, pos, negsuc, nat_lt, if◌then◌else◌}
 use Rattle.op_expand.specs.Calls.{finalizations, result_address}
 use Rattle.op_low.specs.State.{Caller, State}
-use Rattle.op_meaning.specs.Calls.{Handed, all_handed}
-use Rattle.op_meaning.specs.Frames.{Frame, Pending, closing, empty_global, finalize}
+use Rattle.op_meaning.specs.Calls.{Handed, all_handed, begun, called_with}
+use Rattle.op_meaning.specs.Ending.{closed}
+use Rattle.op_meaning.specs.Frames.{Frame, Pending, closing, empty_global, fails, finalize}
 use Rattle.op_meaning.specs.Items.{Receiver, nowhere}
-use Rattle.op_meaning.specs.Machine.{low_eight}
+use Rattle.op_meaning.specs.Machine.{low_eight, returned}
 use Rattle.op_meaning.specs.Numbers.{is_true}
+use Rattle.op_meaning.specs.Unwinding.{closes}
 use Rattle.op_meaning.specs.World.{number_at, Ended as HasEnded}
 use Rattle.op_mir.specs.Code.{Instr}
-use Rattle.op_mir.specs.Machine.{Code, MirCaller, MirState, arm_for, dispatched, execute, go_if, go_to, mir_begun, mir_called_with, mir_closed, mir_closes, mir_fails, mir_returned, mir_step}
+use Rattle.op_mir.specs.Machine.{Code, MirCaller, MirState, arm_for, code_rules, dispatched, execute, go_if, go_to, mir_step, tables}
 use Rattle.op_mir.specs.View.{view_arm, view_given, view_instruction, view_receiver}
 use Rattle.op_mir.specs.declared.instruction.Instruction.TheVariants.{Act, Call, Jump, When, Unless, Switch, Dispatch, MakeDue, Stop, Return}
 use Rattle.op_mir.specs.declared.instruction.Instruction.{Instruction}
@@ -21,7 +23,7 @@ use Rattle.op_agreement.proofs.Standing.{Next, here}
 use Rattle.op_agreement.specs.Chart.{Floor}
 use Rattle.op_agreement.specs.Fitting.{IsFitting}
 use Rattle.op_agreement.specs.Settings.{Setting, managed}
-use Rattle.op_agreement.specs.Stands.{AreStillDue, CallersStand, NoneCloses, dues_in, lowest_rest}
+use Rattle.op_agreement.specs.Stands.{ArePending, AreStillDue, CallersStand, NoneCloses, dues_in, lowest_rest}
 use Rattle.op_agreement.specs.Typed.{IsLight}
 
 -- ---- the rest of the lowest activation
@@ -44,11 +46,11 @@ closed_due g m status frames is open_ = let clash : closing status ∷ frames �
 
 -- ---- states that differ above the lowest activation
 
-kept_due : (g : Setting) (m n : MirState) → m.frames ≡ [] → n.callers ≡ m.callers → n.pending ≡ m.pending → (m.callers ≡ [] → dues_in n.rest ≡ dues_in m.rest) → AreStillDue g m → AreStillDue g n
+kept_due : (g : Setting) (m n : MirState) → m.frames ≡ [] → n.callers ≡ m.callers → n.pending ≡ m.pending → (m.callers ≡ [] → dues_in n.work ≡ dues_in m.work) → AreStillDue g m → AreStillDue g n
 kept_due g m n frames callers pending same due open_ =
     let here : NoneCloses n.frames m.callers = subst (NoneCloses n.frames) callers open_ in
-    ap (λ cs. dues_in (lowest_rest n.rest cs)) callers
-    ∙ same_rest m.rest n.rest m.callers same
+    ap (λ cs. dues_in (lowest_rest n.work cs)) callers
+    ∙ same_rest m.work n.work m.callers same
     ∙ due (with_frames m.frames n.frames m.callers frames here)
     ∙ ap (λ (p : List Pending). drop (length p) (finalizations g.core)) (sym pending)
 
@@ -80,7 +82,7 @@ dispatch_keeps c (negsuc x) t k m n p = p
 module _ (g : Setting) (fit : IsFitting g) (m : MirState) (l : State) (floors : ℕ → Floor) (due : AreStillDue g m) where
   module _ (i : Instruction) (is : List Instruction) (next : Next g m l floors i is) where
     abbrev behind : MirState
-    behind = record m { rest = rest_above g m l floors i is next }
+    behind = record m { work = rest_above g m l floors i is next }
 
     abbrev view : Instr
     view = view_instruction g.core (here m floors).number i
@@ -110,13 +112,13 @@ module _ (g : Setting) (fit : IsFitting g) (m : MirState) (l : State) (floors : 
   act_due a landing is next = kept (Act a landing) is next (λ light. light) (record { callers = refl; pending = refl })
 
   -- a call: the caller waits with what was left
-  begun_due : (r : ℕ) (receiver : Receiver) (handed : Option (List Handed)) (rest : List Instr) → m.frames ≡ [] → (m.callers ≡ [] → dues_in rest ≡ dues_in m.rest) → AreStillDue g (mir_called_with (managed g) r receiver handed (record m { rest = rest }))
-  begun_due r receiver None rest none same = kept_due g m (mir_fails (managed g) 201 (record m { rest = rest })) none refl refl same due
+  begun_due : (r : ℕ) (receiver : Receiver) (handed : Option (List Handed)) (rest : List Instr) → m.frames ≡ [] → (m.callers ≡ [] → dues_in rest ≡ dues_in m.work) → AreStillDue g (called_with (code_rules (managed g)) r receiver rest handed (record m { work = rest }))
+  begun_due r receiver None rest none same = kept_due g m (fails (tables (managed g)) 201 (record m { work = rest })) none refl refl same due
   begun_due r receiver (Some given) rest none same = by (nat_lt g.stack (m.charged + (managed g).charge r)) refl
     where
-      by : (b : Bool) → nat_lt g.stack (m.charged + (managed g).charge r) ≡ b → AreStillDue g (mir_begun (managed g) r receiver given (record m { rest = rest }))
-      by true over = rw over (kept_due g m (mir_fails (managed g) 202 (record m { rest = rest })) none refl refl same due)
-      by false under = rw under (λ open_. same_rest m.rest rest m.callers same ∙ due open_.1)
+      by : (b : Bool) → nat_lt g.stack (m.charged + (managed g).charge r) ≡ b → AreStillDue g (begun (code_rules (managed g)) r receiver rest given (record m { work = rest }))
+      by true over = rw over (kept_due g m (fails (tables (managed g)) 202 (record m { work = rest })) none refl refl same due)
+      by false under = rw under (λ open_. same_rest m.work rest m.callers same ∙ due open_.1)
 
   pub instruction_due : (i : Instruction) (is : List Instruction) → Next g m l floors i is → AreStillDue g (mir_step (managed g) m)
   unfolding execute
@@ -145,26 +147,26 @@ module _ (g : Setting) (fit : IsFitting g) (m : MirState) (l : State) (floors : 
   instruction_due (Stop t) is next =
       let n = behind (Stop t) is next in
       let status = low_eight (number_at m.world t.0) in
-      subst (AreStillDue g) (sym (step_here g fit m l floors (Stop t) is next ∙ ap (λ fs. mir_closes status fs n) next.frames)) (closed_due g (record n { frames = closing status ∷ [] }) status [] refl)
+      subst (AreStillDue g) (sym (step_here g fit m l floors (Stop t) is next ∙ ap (λ fs. closes status fs n) next.frames)) (closed_due g (record n { frames = closing status ∷ [] }) status [] refl)
   instruction_due Return is next = subst (AreStillDue g) (sym (step_here g fit m l floors Return is next)) (by m.callers refl)
     where
       n : MirState
-      n = record m { rest = rest_above g m l floors Return is next }
+      n = record m { work = rest_above g m l floors Return is next }
 
-      by : (cs : List MirCaller) → m.callers ≡ cs → AreStillDue g (mir_returned (managed g) cs n)
-      by [] none = subst (AreStillDue g) (sym (ap (λ fs. mir_closes 0 fs n) next.frames)) (closed_due g (record n { frames = closing 0 ∷ [] }) 0 [] refl)
-      by (c ∷ cs) above = λ open_. sym (ap (λ cs. dues_in (lowest_rest m.rest cs)) above) ∙ due (subst (NoneCloses m.frames) (sym above) (next.frames, open_))
+      by : (cs : List MirCaller) → m.callers ≡ cs → AreStillDue g (returned (tables (managed g)) cs n)
+      by [] none = subst (AreStillDue g) (sym (ap (λ fs. closes 0 fs n) next.frames)) (closed_due g (record n { frames = closing 0 ∷ [] }) 0 [] refl)
+      by (c ∷ cs) above = λ open_. sym (ap (λ cs. dues_in (lowest_rest m.work cs)) above) ∙ due (subst (NoneCloses m.frames) (sym above) (next.frames, open_))
 
 -- ---- where the program ends
 
-pub closing_due : (g : Setting) (m : MirState) (status : ℕ) (pending : List Pending) → m.frames ≡ closing status ∷ [] → AreStillDue g (mir_closed (managed g) status pending m)
-closing_due g m status [] frames = closed_due g (record m { world = record m.world { ending = HasEnded status } }) status [] frames
-closing_due g m status (empty_global v ∷ pending) frames = closed_due g m status [] frames
-closing_due g m status (finalize f ∷ pending) frames = by (nat_lt g.stack (m.charged + (managed g).charge f.0)) refl
+pub closing_due : (g : Setting) (m : MirState) (status : ℕ) (pending : List Pending) → m.frames ≡ closing status ∷ [] → ArePending (finalizations g.core) pending → AreStillDue g (closed (code_rules (managed g)) status pending m)
+closing_due g m status [] frames parts = closed_due g (record m { world = record m.world { ending = HasEnded status } }) status [] frames
+closing_due g m status (empty_global v ∷ pending) frames parts = let clash = parts.are in absurd cc
+closing_due g m status (finalize f ∷ pending) frames parts = by (nat_lt g.stack (m.charged + (managed g).charge f.0)) refl
   where
     n : MirState
     n = record m { pending = pending }
 
-    by : (b : Bool) → nat_lt g.stack (m.charged + (managed g).charge f.0) ≡ b → AreStillDue g (mir_begun (managed g) f.0 nowhere [] n)
-    by true over = rw over (closed_due g (mir_fails (managed g) 202 n) status [] frames)
+    by : (b : Bool) → nat_lt g.stack (m.charged + (managed g).charge f.0) ≡ b → AreStillDue g (begun (code_rules (managed g)) f.0 nowhere m.work [] n)
+    by true over = rw over (closed_due g (fails (tables (managed g)) 202 n) status [] frames)
     by false under = rw under (λ open_. let clash : closing status ∷ [] ≡ [] = sym frames ∙ first_frames m.frames m.callers open_.1 in absurd cc)

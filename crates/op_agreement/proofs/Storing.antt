@@ -103,7 +103,7 @@ module _ (g : Setting) (floors : ℕ → Floor) (m : MirState) (l : State) (s : 
   variable_differs : (u : ℕ) → (u ≡ v → ⊥) → local level u ≡ local level v → ⊥
   variable_differs u other e = other cc
 
-  pub stays_variable : (rest : List Instr) (h : ℕ → ℕ) (now : List LowInstruction) → IsWordOf (h r) n → ((q : ℕ) → q < (here m floors).frame.bank.scratch → q ≢ r → h q ≡ l.top.registers q) → IsPlainWorld (record m.world { memory = set }) → Stays g floors (record m { world = record m.world { memory = set }; rest = rest }) (at l h now)
+  pub stays_variable : (rest : List Instr) (h : ℕ → ℕ) (now : List LowInstruction) → IsWordOf (h r) n → ((q : ℕ) → q < (here m floors).frame.bank.scratch → q ≢ r → h q ≡ l.top.registers q) → IsPlainWorld (record m.world { memory = set }) → Stays g floors (record m { world = record m.world { memory = set }; work = rest }) (at l h now)
   stays_variable rest h now word kept plain =
       let a = s.activation in
       let fits = a.floor.fits in
@@ -211,9 +211,9 @@ module _ (g : Setting) (fit : IsFitting g) (m : MirState) (l : State) (floors : 
         let plain : IsPlainWorld (with_value (all_of (local m.world.depth v.0)) (number (low_bits_of kind x)) m.world) = plain_perform g.core fit.program.exceptions (view_action g.core (here m floors).number (Store (record { root = Local v; steps = [] }) kind from)) m.world s.plain in
         by (outcome code l.top.registers) straight answers (begins_here g fit m l floors i is next code is_code) some variable
         (subst (λ d. IsPlainWorld (with_value (all_of (local d v.0)) (number (low_bits_of kind x)) m.world)) s.depth plain)
-        (step_here g fit m l floors i is next ∙ ap (λ d. record m { world = with_value (all_of (local d v.0)) (number (low_bits_of kind x)) m.world; rest = rest_above g m l floors i is next }) s.depth)
+        (step_here g fit m l floors i is next ∙ ap (λ d. record m { world = with_value (all_of (local d v.0)) (number (low_bits_of kind x)) m.world; work = rest_above g m l floors i is next }) s.depth)
       where
-        by : (o : Outcome) → GoesTo g (fewest_steps (low_bits_code r kind (register_of frame.bank from))) (length (low_bits_code r kind (register_of frame.bank from))) l (at l l.top.registers (low_bits_code r kind (register_of frame.bank from) ++ rest_below g m l floors (Stores (Local v) [] landing) is next)) (rest_below g m l floors (Stores (Local v) [] landing) is next) o → Answers (work_of frame.bank) r l.top.registers (gives (low_bits_of kind (number_at m.world from.0))) o → l ≡ at l l.top.registers (low_bits_code r kind (register_of frame.bank from) ++ rest_below g m l floors (Stores (Local v) [] landing) is next) → fewest_steps (low_bits_code r kind (register_of frame.bank from)) ≡ 1 → IsVariable g.core (here m floors).number v.0 false → IsPlainWorld (with_value (all_of (local (length m.callers) v.0)) (number (low_bits_of kind (number_at m.world from.0))) m.world) → mir_step (managed g) m ≡ record m { world = with_value (all_of (local (length m.callers) v.0)) (number (low_bits_of kind (number_at m.world from.0))) m.world; rest = rest_above g m l floors (Stores (Local v) [] landing) is next } → Comes g m l
+        by : (o : Outcome) → GoesTo g (fewest_steps (low_bits_code r kind (register_of frame.bank from))) (length (low_bits_code r kind (register_of frame.bank from))) l (at l l.top.registers (low_bits_code r kind (register_of frame.bank from) ++ rest_below g m l floors (Stores (Local v) [] landing) is next)) (rest_below g m l floors (Stores (Local v) [] landing) is next) o → Answers (work_of frame.bank) r l.top.registers (gives (low_bits_of kind (number_at m.world from.0))) o → l ≡ at l l.top.registers (low_bits_code r kind (register_of frame.bank from) ++ rest_below g m l floors (Stores (Local v) [] landing) is next) → fewest_steps (low_bits_code r kind (register_of frame.bank from)) ≡ 1 → IsVariable g.core (here m floors).number v.0 false → IsPlainWorld (with_value (all_of (local (length m.callers) v.0)) (number (low_bits_of kind (number_at m.world from.0))) m.world) → mir_step (managed g) m ≡ record m { world = with_value (all_of (local (length m.callers) v.0)) (number (low_bits_of kind (number_at m.world from.0))) m.world; work = rest_above g m l floors (Stores (Local v) [] landing) is next } → Comes g m l
         by (Behind h) goes answers begins some variable plain step =
             let rest = rest_below g m l floors (Stores (Local v) [] landing) is next in
             let n = low_bits_of kind (number_at m.world from.0) in
@@ -222,7 +222,7 @@ module _ (g : Setting) (fit : IsFitting g) (m : MirState) (l : State) (floors : 
               goes = goes_within g 1 (most_for_one * mir_cost (managed g) m) l (at l h rest)
                   (subst (λ k. Goes g k (length (low_bits_code r kind (register_of frame.bank from))) l (at l h rest)) some (goes_from g _ l _ (at l h rest) begins goes))
                   (afford g fit m l floors (Stores (Local v) [] landing) is next (λ light. light) (length (low_bits_code r kind (register_of frame.bank from))) (let short = low_bits_short r kind (register_of frame.bank from) in omega arith));
-              stands = subst (λ k. Stands g k (at l h rest)) (sym step) (stands_on g (record m { world = with_value (all_of (local (length m.callers) v.0)) (number n) m.world; rest = rest_above g m l floors (Stores (Local v) [] landing) is next }) (at l h rest) next.ending next.frames (record {
+              stands = subst (λ k. Stands g k (at l h rest)) (sym step) (stands_on g (record m { world = with_value (all_of (local (length m.callers) v.0)) (number n) m.world; work = rest_above g m l floors (Stores (Local v) [] landing) is next }) (at l h rest) next.ending next.frames (record {
                 floors = floors;
                 stays = stays_variable g floors m l next.stays v.0 r.0 n variable home (rest_above g m l floors (Stores (Local v) [] landing) is next) h rest answers.result (λ q low other. answers.others q (omega arith) other) plain;
                 position = rest_stands g m l floors (Stores (Local v) [] landing) is next (behind_act next.on);
@@ -240,7 +240,7 @@ module _ (g : Setting) (fit : IsFitting g) (m : MirState) (l : State) (floors : 
     abbrev sw : Path → LowInstruction
     sw path = StoreWord (store_op kind) (register_of frame.bank from) (spot_placed path).base (pos (spot_placed path).offset)
 
-    store_by : (path : Path) (landing : Option BlockId) (next : NextIs (Act (Store path kind from) landing)) (of : TypeId) → Rattle.op_meaning.specs.Shapes.shape_of g.core of ≡ Rattle.op_meaning.specs.Shapes.single kind → PathTo g.core (here m floors).number (view_path path) of → from.0 < (here m floors).routine.temporaries → (o : Option Place) → place_meant m.world (view_path path) ≡ o → l ≡ at l l.top.registers (store_code_placed path ++ (sw path ∷ rest_below g m l floors (Act (Store path kind from) landing) is next)) → PlaceTo g fit m l floors next.stays (fewest_steps (store_code_placed path)) (place_most path) (at l l.top.registers (store_code_placed path ++ (sw path ∷ rest_below g m l floors (Act (Store path kind from) landing) is next))) l.top.registers (scratch_of frame.bank 0) (spot_placed path) (sw path ∷ rest_below g m l floors (Act (Store path kind from) landing) is next) of o → mir_step (managed g) m ≡ record m { world = at_place g.core o (λ p. with_value p (number (low_bits_of kind (number_at m.world from.0))) m.world) m.world; rest = rest_above g m l floors (Act (Store path kind from) landing) is next } → IsPlainWorld (at_place g.core o (λ p. with_value p (number (low_bits_of kind (number_at m.world from.0))) m.world) m.world) → Comes g m l
+    store_by : (path : Path) (landing : Option BlockId) (next : NextIs (Act (Store path kind from) landing)) (of : TypeId) → Rattle.op_meaning.specs.Shapes.shape_of g.core of ≡ Rattle.op_meaning.specs.Shapes.single kind → PathTo g.core (here m floors).number (view_path path) of → from.0 < (here m floors).routine.temporaries → (o : Option Place) → place_meant m.world (view_path path) ≡ o → l ≡ at l l.top.registers (store_code_placed path ++ (sw path ∷ rest_below g m l floors (Act (Store path kind from) landing) is next)) → PlaceTo g fit m l floors next.stays (fewest_steps (store_code_placed path)) (place_most path) (at l l.top.registers (store_code_placed path ++ (sw path ∷ rest_below g m l floors (Act (Store path kind from) landing) is next))) l.top.registers (scratch_of frame.bank 0) (spot_placed path) (sw path ∷ rest_below g m l floors (Act (Store path kind from) landing) is next) of o → mir_step (managed g) m ≡ record m { world = at_place g.core o (λ p. with_value p (number (low_bits_of kind (number_at m.world from.0))) m.world) m.world; work = rest_above g m l floors (Act (Store path kind from) landing) is next } → IsPlainWorld (at_place g.core o (λ p. with_value p (number (low_bits_of kind (number_at m.world from.0))) m.world) m.world) → Comes g m l
     store_by path landing next of shape typed low_from None e begins fails step plain = index_fails g fit m l floors is (Act (Store path kind from) landing) next _ (place_most path) _ begins fails (afford g fit m l floors (Act (Store path kind from) landing) is next (λ light. light) (place_most path + 5) (omega arith)) step
     store_by path landing next of shape typed low_from (Some q) e begins reached step plain =
         let i = Act (Store path kind from) landing in
@@ -263,7 +263,7 @@ module _ (g : Setting) (fit : IsFitting g) (m : MirState) (l : State) (floors : 
           goes = goes_within g 1 (most_for_one * mir_cost (managed g) m) l k
               (goes_from g 1 l _ k begins (goes_then g _ 1 1 _ (at l reached.h (sw path ∷ rest)) k (omega arith) reached.goes stores.goes))
               (afford g fit m l floors i is next (λ light. light) (place_most path + 1) (omega arith));
-          stands = subst (λ y. Stands g y k) (sym step) (stands_on g (record m { world = with_value q (number (low_bits_of kind x)) m.world; rest = rest_above g m l floors i is next }) k next.ending next.frames (record {
+          stands = subst (λ y. Stands g y k) (sym step) (stands_on g (record m { world = with_value q (number (low_bits_of kind x)) m.world; work = rest_above g m l floors i is next }) k next.ending next.frames (record {
             floors = floors;
             stays = stays_put g fit floors m l s q of (reached.h spot.base.0 + spot.offset) reached.is (omega arith) small (number (low_bits_of kind x)) stores.memory stores.changed (rest_above g m l floors i is next) reached.h rest plain stores.bytes stores.lies
                 (λ r low. reached.kept r (omega arith))
@@ -320,4 +320,4 @@ module _ (g : Setting) (fit : IsFitting g) (m : MirState) (l : State) (floors : 
   look_empty path landing next code q e =
       turned g fit m l floors (Act (Look path) landing) is next (Const (scratch_of frame.bank 0) 0 ∷ []) None code refl (afford g fit m l floors (Act (Look path) landing) is next (λ light. light) 1 (omega arith)) (λ none. behind_act next.on) (λ k e. absurd cc)
       (λ r low. put_lower l.top.registers (scratch_of frame.bank 0) 0 r low)
-      (step_here g fit m l floors (Act (Look path) landing) is next ∙ ap (λ o. record m { world = at_place g.core o (λ p. m.world) m.world; rest = rest_above g m l floors (Act (Look path) landing) is next }) e)
+      (step_here g fit m l floors (Act (Look path) landing) is next ∙ ap (λ o. record m { world = at_place g.core o (λ p. m.world) m.world; work = rest_above g m l floors (Act (Look path) landing) is next }) e)

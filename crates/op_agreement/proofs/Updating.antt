@@ -159,7 +159,7 @@ module _ (g : Setting) (old new : ℕ → Floor) where
           result_moved (length cs) deeper.floors declared c.receiver l address result,
           nameless,
           made,
-          subst (λ f. Position g f c.rest l.activation.now) same position,
+          subst (λ f. Position g f c.work l.activation.now) same position,
           activation_moved (length cs) deeper.floors (λ v r is home. u.variables (length cs) v r (omega arith) is home) (λ v is. u.places (length cs) v (omega arith) is) c.temps c.routine l.activation below spare under activation,
           callers_moved cs ls c.routine (l.activation.registers result_address.0) below spare under deeper callers,
         )
@@ -291,7 +291,7 @@ module _ (g : Setting) (fit : IsFitting g) (floors : ℕ → Floor) (m : MirStat
         by x from to at_ within (inl before) = inr (omega arith)
         by x from to at_ within (inr behind) = inl (omega arith)
 
-    pub stays_put : (rest : List Instr) (f : ℕ → ℕ) (now : List LowInstruction) → IsPlainWorld (with_value q v m.world) → ((x : ℕ) → x < l.limit → memory x < 2 ^ 8) → Lies (arrangement_of g.core of) v memory a → SameVariables (here m floors) l.top.registers f → Temporaries (here m floors) m.world.temps f → Stays g floors (record m { world = with_value q v m.world; rest = rest }) (record (at l f now) { memory = memory })
+    pub stays_put : (rest : List Instr) (f : ℕ → ℕ) (now : List LowInstruction) → IsPlainWorld (with_value q v m.world) → ((x : ℕ) → x < l.limit → memory x < 2 ^ 8) → Lies (arrangement_of g.core of) v memory a → SameVariables (here m floors) l.top.registers f → Temporaries (here m floors) m.world.temps f → Stays g floors (record m { world = with_value q v m.world; work = rest }) (record (at l f now) { memory = memory })
     stays_put rest f now plain bytes there same are =
         let a = s.activation in
         let fits = a.floor.fits in

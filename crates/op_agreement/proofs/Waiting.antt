@@ -7,9 +7,10 @@ use Rattle.op_core.specs.declared.ids.RoutineId.{RoutineId}
 use Rattle.op_expand.specs.Calls.{receiver_of, result_address, runtime}
 use Rattle.op_low.specs.State.{Activation, Caller, State, routine_of, space}
 use Rattle.op_low.specs.declared.instruction.Instruction.{Instruction as LowInstruction}
+use Rattle.op_meaning.specs.Calls.{caller_of}
 use Rattle.op_meaning.specs.Items.{Receiver, nowhere, to_temp, to_place}
 use Rattle.op_meaning.specs.Values.{Value, Holder, local, temporary, Place, number_in}
-use Rattle.op_mir.specs.Machine.{MirState, mir_caller_of}
+use Rattle.op_mir.specs.Machine.{MirState}
 use Rattle.op_mir.specs.View.{view_receiver}
 use Rattle.op_mir.specs.declared.instruction.Call.{Call as Operands}
 use Rattle.op_mir.specs.declared.instruction.Instruction.TheVariants.{Call}
@@ -76,7 +77,7 @@ module _ (g : Setting) (fit : IsFitting g) (m : MirState) (l : State) (floors : 
 
   -- With floors that are the same up to the present depth, and values that are, the caller and those below it stand as callers of the routine
   -- that begins, whose locals are those of its low code.
-  pub caller_waits : (new : ℕ → Floor) (values : Holder → Value) (bound : ℕ → ℕ → Place) → SameFloors floors new (length m.callers) → SameUpTo (length m.callers) m.world.memory values m.world.bound bound → (new (suc (length m.callers))).frame.locals ≡ (routine_of g.low (runtime + callee.0)).locals → CallersStand g new values bound (mir_caller_of (record m { rest = rest_above g m l floors (Call callee call) js next }) (view_receiver call.receiver) ∷ m.callers) (record { activation = waiting; to = b.to; landing = None } ∷ l.callers) callee.0 b.result (l.limit + (routine_of g.low (runtime + callee.0)).locals) (l.room - space g.low g.placement (runtime + callee.0)) (m.charged + (managed g).charge callee.0)
+  pub caller_waits : (new : ℕ → Floor) (values : Holder → Value) (bound : ℕ → ℕ → Place) → SameFloors floors new (length m.callers) → SameUpTo (length m.callers) m.world.memory values m.world.bound bound → (new (suc (length m.callers))).frame.locals ≡ (routine_of g.low (runtime + callee.0)).locals → CallersStand g new values bound (caller_of m (view_receiver call.receiver) (rest_above g m l floors (Call callee call) js next) ∷ m.callers) (record { activation = waiting; to = b.to; landing = None } ∷ l.callers) callee.0 b.result (l.limit + (routine_of g.low (runtime + callee.0)).locals) (l.room - space g.low g.placement (runtime + callee.0)) (m.charged + (managed g).charge callee.0)
   caller_waits new values bound same kept locals =
       let d = length m.callers in
       let a = next.stays.activation in

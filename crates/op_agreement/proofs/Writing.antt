@@ -105,7 +105,7 @@ module _ (g : Setting) (fit : IsFitting g) (m : MirState) (l : State) (floors : 
 
   -- ---- what is kept where memory behind the limit, and the output, have changed
 
-  pub stays_written : (text : List ℕ) (rest : List Instr) (h : ℕ → ℕ) (now : List LowInstruction) (memory : ℕ → ℕ) → ((x : ℕ) → x < l.limit → memory x ≡ l.memory x) → SameVariables (here m floors) l.top.registers h → Temporaries (here m floors) m.world.temps h → Stays g floors (record m { world = written text m.world; rest = rest }) (record (at l h now) { memory = memory; output = l.output ++ text })
+  pub stays_written : (text : List ℕ) (rest : List Instr) (h : ℕ → ℕ) (now : List LowInstruction) (memory : ℕ → ℕ) → ((x : ℕ) → x < l.limit → memory x ≡ l.memory x) → SameVariables (here m floors) l.top.registers h → Temporaries (here m floors) m.world.temps h → Stays g floors (record m { world = written text m.world; work = rest }) (record (at l h now) { memory = memory; output = l.output ++ text })
   stays_written text rest h now memory kept_memory same are =
       let a = s.activation in
       let fits = a.floor.fits in
@@ -167,15 +167,15 @@ module _ (g : Setting) (fit : IsFitting g) (m : MirState) (l : State) (floors : 
   at_least f number arguments k (suc n) now ends = omega arith
 
   -- what is written is paid for
-  written_costs : (IsLight i → ⊥) → (text : List ℕ) → mir_step (managed g) m ≡ record m { world = written text m.world; rest = rest_above g m l floors i is next } → 2 + (512 + length text) ≤ most_for_one * mir_cost (managed g) m
+  written_costs : (IsLight i → ⊥) → (text : List ℕ) → mir_step (managed g) m ≡ record m { world = written text m.world; work = rest_above g m l floors i is next } → 2 + (512 + length text) ≤ most_for_one * mir_cost (managed g) m
   written_costs light text step =
       let paid = (heavy g fit m l floors i is next light).least in
-      let cost : mir_cost (managed g) m ≡ mir_effort (managed g) m (record m { world = written text m.world; rest = rest_above g m l floors i is next }) = cost_is g fit m l floors i is next ∙ ap (mir_effort (managed g) m) step in
+      let cost : mir_cost (managed g) m ≡ mir_effort (managed g) m (record m { world = written text m.world; work = rest_above g m l floors i is next }) = cost_is g fit m l floors i is next ∙ ap (mir_effort (managed g) m) step in
       let long = length-append m.world.output text in
       omega arith
 
   -- the call, behind other code, writes what managed code does
-  pub written_comes : (f : ℕ → ℕ) (number : ℕ) (arguments : List VirtualRegister) (text : List ℕ) → KeptBelow (here m floors).frame.bank.scratch l.top.registers f → (n : ℕ) → Goes g n 2 l (calls f number arguments) → (IsLight i → ⊥) → Writes g.low g.placement (calls f number arguments) (operands arguments) rest text → AreFine g.core g.mir (here m floors).number (here m floors).routine is → mir_step (managed g) m ≡ record m { world = written text m.world; rest = rest_above g m l floors i is next } → Comes g m l
+  pub written_comes : (f : ℕ → ℕ) (number : ℕ) (arguments : List VirtualRegister) (text : List ℕ) → KeptBelow (here m floors).frame.bank.scratch l.top.registers f → (n : ℕ) → Goes g n 2 l (calls f number arguments) → (IsLight i → ⊥) → Writes g.low g.placement (calls f number arguments) (operands arguments) rest text → AreFine g.core g.mir (here m floors).number (here m floors).routine is → mir_step (managed g) m ≡ record m { world = written text m.world; work = rest_above g m l floors i is next } → Comes g m l
   written_comes f number arguments text kept_f n goes light writes fine step =
       let s = next.stays in
       let a = s.activation in
@@ -188,7 +188,7 @@ module _ (g : Setting) (fit : IsFitting g) (m : MirState) (l : State) (floors : 
       record {
         to = k;
         goes = goes_within g 1 (most_for_one * mir_cost (managed g) m) l k (goes_then g n 1 1 l (calls f number arguments) k (omega arith) goes call_goes) (written_costs light text step);
-        stands = subst (λ x. Stands g x k) (sym step) (stands_on g (record m { world = written text m.world; rest = rest_above g m l floors i is next }) k next.ending next.frames (record {
+        stands = subst (λ x. Stands g x k) (sym step) (stands_on g (record m { world = written text m.world; work = rest_above g m l floors i is next }) k next.ending next.frames (record {
           floors = floors;
           stays = stays_written g fit m l floors s text (rest_above g m l floors i is next) h rest writes.memory writes.kept (λ r low. kept_h r (omega arith))
               (λ t low. subst (λ x. IsWordOf x (Rattle.op_meaning.specs.Values.number_in (m.world.temps t))) (sym (kept_h ((here m floors).frame.bank.temporaries + t) (omega arith))) (a.kept.temporaries t low));
@@ -217,7 +217,7 @@ module _ (g : Setting) (fit : IsFitting g) (m : MirState) (l : State) (floors : 
   NextIs i = Next g m l floors i is
 
   -- of a number, a Boolean or a Char
-  value_comes : (w : Writing) (landing : Option BlockId) (next : NextIs (Act (Write w) landing)) (number : ℕ) (from width : TemporaryId) (meant : ℤ → List ℕ) → code_for g.core g.mir (here m floors).frame (Act (Write w) landing) ≡ call number (register_of (here m floors).frame.bank from ∷ register_of (here m floors).frame.bank width ∷ []) (scratch_of (here m floors).frame.bank 0) ∷ [] → from.0 < (here m floors).routine.temporaries → width.0 < (here m floors).routine.temporaries → ((k : State) (operands : Operands) (rest : List LowInstruction) (value wide : ℕ) → HasTexts g.placement k → Called g.low g.placement k number (value ∷ wide ∷ []) operands rest → Writes g.low g.placement k operands rest (padded (width_of (signed wide)) (meant (signed value)))) → mir_step (managed g) m ≡ record m { world = written (padded (width_of (number_at m.world width.0)) (meant (number_at m.world from.0))) m.world; rest = rest_above g m l floors (Act (Write w) landing) is next } → Comes g m l
+  value_comes : (w : Writing) (landing : Option BlockId) (next : NextIs (Act (Write w) landing)) (number : ℕ) (from width : TemporaryId) (meant : ℤ → List ℕ) → code_for g.core g.mir (here m floors).frame (Act (Write w) landing) ≡ call number (register_of (here m floors).frame.bank from ∷ register_of (here m floors).frame.bank width ∷ []) (scratch_of (here m floors).frame.bank 0) ∷ [] → from.0 < (here m floors).routine.temporaries → width.0 < (here m floors).routine.temporaries → ((k : State) (operands : Operands) (rest : List LowInstruction) (value wide : ℕ) → HasTexts g.placement k → Called g.low g.placement k number (value ∷ wide ∷ []) operands rest → Writes g.low g.placement k operands rest (padded (width_of (signed wide)) (meant (signed value)))) → mir_step (managed g) m ≡ record m { world = written (padded (width_of (number_at m.world width.0)) (meant (number_at m.world from.0))) m.world; work = rest_above g m l floors (Act (Write w) landing) is next } → Comes g m l
   value_comes w landing next number from width meant code low_from low_width routine step =
       let i = Act (Write w) landing in
       let s = next.stays in

@@ -114,7 +114,7 @@ CallersStand g floors values bound (c ∷ cs) (l ∷ ls) number address limit ro
     × IsTypedReceiver g.core c.receiver (result_of (slice_get g.core.routines number))
     × ResultGoes g floors (length cs) declared c.receiver l address
     × ((t : ℕ) → IsNameless (c.temps t)) × (c.made ≡ [])
-    × Position g (floors (length cs)) c.rest l.activation.now
+    × Position g (floors (length cs)) c.work l.activation.now
     × ActivationStands g floors (length cs) values bound c.temps c.routine l.activation below spare under
     × CallersStand g floors values bound cs ls c.routine (l.activation.registers result_address.0) below spare under)
     ⊎ ((below : ℕ) × (under : ℕ) × (spare : ℕ) × (status : ℕ) × (a : Activation) × (ended : Caller) × (others : List Caller)
@@ -170,7 +170,7 @@ pub record Stays (g : Setting) (floors : ℕ → Floor) (m : MirState) (l : Stat
 pub record GoesOn (g : Setting) (m : MirState) (l : State) : Type 0 where
   pub floors : ℕ → Floor
   pub stays : Stays g floors m l
-  pub position : Position g (floors (length m.callers)) m.rest l.top.now
+  pub position : Position g (floors (length m.callers)) m.work l.top.now
 
 -- without finalization parts the program is about to end with the status that the low eight bits of register 0 have
 pub record Closes (g : Setting) (status : ℕ) (m : MirState) (l : State) : Type 0 where
@@ -232,7 +232,7 @@ dues_in (i ∷ is) = dues_in is
 -- what is left of the lowest activation's block
 abbrev pub lowest_rest : List Instr → List MirCaller → List Instr
 lowest_rest rest [] = rest
-lowest_rest rest (c ∷ cs) = lowest_rest c.rest cs
+lowest_rest rest (c ∷ cs) = lowest_rest c.work cs
 
 abbrev pub NoneCloses : List WaitingFrame → List MirCaller → Type 0
 NoneCloses frames [] = frames ≡ []
@@ -240,7 +240,7 @@ NoneCloses frames (c ∷ cs) = (frames ≡ []) × NoneCloses c.frames cs
 
 -- until the program ends the parts that are not due yet are those that it still makes due
 abbrev pub AreStillDue : Setting → MirState → Type 0
-AreStillDue g m = NoneCloses m.frames m.callers → dues_in (lowest_rest m.rest m.callers) ≡ drop (length m.pending) (finalizations g.core)
+AreStillDue g m = NoneCloses m.frames m.callers → dues_in (lowest_rest m.work m.callers) ≡ drop (length m.pending) (finalizations g.core)
 
 abbrev pub StandsFor : Setting → MirState → State → Type 0
 StandsFor g m l = AreStillDue g m × Stands g m l

@@ -10,4 +10,4 @@ mod RunsLoops
 mod RunsNumbers
 mod RunsParts
 mod RunsSets
-mod RunsWhole
+pub mod RunsWhole

@@ -8,6 +8,7 @@ use Rattle.op_core.specs.Types.{id}
 use Rattle.op_meaning.proofs.Programs.{said, var, num, quoted, calc, line, shown, do_call, own, procedure, core_of, runs}
 use Rattle.op_meaning.proofs.RunsWhole.{raising, error_program}
 use Rattle.op_meaning.specs.Actions.{perform}
+use Rattle.op_meaning.specs.Calls.{source_rules}
 use Rattle.op_meaning.specs.Costs.{cost}
 use Rattle.op_meaning.specs.Demands.{block, standing}
 use Rattle.op_meaning.specs.Frames.{Program, State}
@@ -96,22 +97,22 @@ module _ (name : Name) where
 
   -- The record ends by a walk over its strings: both are held elsewhere and stand. Then the temporary ends, and the string 1 is gone. Then
   -- the array loses its holder: its elements end in order, so that the string 2 is gone, and then the array itself.
-  record_ends : left_after 3 held_program (ends_place held_program (all_of (global 0)) held_state) ≡ record { names = 1 ∷ 2 ∷ 3 ∷ []; output = []; errors = [] }
+  record_ends : left_after 3 held_program (ends_place (source_rules held_program) (all_of (global 0)) held_state) ≡ record { names = 1 ∷ 2 ∷ 3 ∷ []; output = []; errors = [] }
   unfolding left_after
   record_ends = refl
 
-  temporary_ends : left_after 4 held_program (record (ends_place held_program (all_of (global 0)) held_state) { work = item (finish 0) ∷ [] }) ≡ record { names = 2 ∷ 3 ∷ []; output = []; errors = [] }
+  temporary_ends : left_after 4 held_program (record (ends_place (source_rules held_program) (all_of (global 0)) held_state) { work = item (finish 0) ∷ [] }) ≡ record { names = 2 ∷ 3 ∷ []; output = []; errors = [] }
   unfolding left_after
   temporary_ends = refl
 
-  array_ends : left_after 3 held_program (ends_place held_program (all_of (global 1)) held_state) ≡ record { names = 1 ∷ 2 ∷ []; output = []; errors = [] }
+  array_ends : left_after 3 held_program (ends_place (source_rules held_program) (all_of (global 1)) held_state) ≡ record { names = 1 ∷ 2 ∷ []; output = []; errors = [] }
   unfolding left_after
   array_ends = refl
 
   abbrev second_ends : State → State
-  second_ends s = ends_place held_program (all_of (global 1)) s
+  second_ends s = ends_place (source_rules held_program) (all_of (global 1)) s
 
-  all_end : left_after 4 held_program (second_ends (run_for 4 held_program (record (ends_place held_program (all_of (global 0)) held_state) { work = item (finish 0) ∷ [] })))
+  all_end : left_after 4 held_program (second_ends (run_for 4 held_program (record (ends_place (source_rules held_program) (all_of (global 0)) held_state) { work = item (finish 0) ∷ [] })))
       ≡ record { names = []; output = []; errors = [] }
   unfolding left_after run_for step step_by stepped acted done do_item do_task each any_below
   all_end = refl
@@ -135,7 +136,7 @@ module _ (name : Name) where
   }
 
   -- the last interface that holds it ends, and so it is destroyed
-  last_holder_ends : left_after 6 class_program (ends_place class_program (all_of (global 0)) (instance_state true [])) ≡ record { names = []; output = codes "d"; errors = [] }
+  last_holder_ends : left_after 6 class_program (ends_place (source_rules class_program) (all_of (global 0)) (instance_state true [])) ≡ record { names = []; output = codes "d"; errors = [] }
   unfolding left_after
   last_holder_ends = refl
 

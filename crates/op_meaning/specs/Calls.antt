@@ -9,7 +9,8 @@ use Rattle.op_core.specs.declared.routine.Role.TheVariants.{Plain, Constant, Par
 use Rattle.op_core.specs.declared.routine.Variable.{Variable}
 use Rattle.op_meaning.specs.Actions.{at_place}
 use Rattle.op_meaning.specs.Expressions.{Env, first_here, result_of}
-use Rattle.op_meaning.specs.Frames.{Program, State, Caller, with_work, fails, charged_for, discharged}
+use Rattle.op_meaning.specs.Frames.{Program, StateOver, CallerOver, Rules, with_work, fails, charged_for, discharged}
+use Rattle.op_meaning.specs.Holding.{searching}
 use Rattle.op_meaning.specs.Items.{Given, by_value, by_reference, by_place, by_copy, Receiver, nowhere, to_temp, to_place, Task, ending, onto}
 use Rattle.op_meaning.specs.Numbers.{low_bits_of}
 use Rattle.op_meaning.specs.Paths.{place_of}
@@ -100,26 +101,30 @@ body_work p r =
     onto (first_items p.core p.first r (variables_of p.core r).count)
     (onto (work_of_all (env_of p r) first_here (p.body r)) (ending_of p.core r))
 
+-- the rules of the source machine: tasks are done, and holders are looked for
+abbrev pub source_rules : Program → Rules (List Task) (Unit {0})
+source_rules p = searching p (body_work p)
+
 -- the activation under way waits behind this work
-abbrev pub caller_of : State → Receiver → List Task → Caller
+abbrev pub caller_of : {Work Counts : Type 0} → StateOver Work Counts → Receiver → Work → CallerOver Work
 caller_of s receiver work = record { routine = s.routine; temps = s.world.temps; made = s.world.made; work = work; receiver = receiver; frames = s.frames }
 
-abbrev pub begun : Program → ℕ → Receiver → List Task → List Handed → State → State
-begun p r receiver work given s = charged_for p (p.charge r) s (λ t. record t {
-  world = entered p r given t.world;
+abbrev pub begun : {Work Counts : Type 0} → Rules Work Counts → ℕ → Receiver → Work → List Handed → StateOver Work Counts → StateOver Work Counts
+begun rules r receiver work given s = charged_for rules.program (rules.program.charge r) s (λ t. record t {
+  world = entered rules.program r given t.world;
   routine = r;
-  work = body_work p r;
+  work = rules.body r;
   frames = [];
   callers = caller_of t receiver work ∷ t.callers;
 })
 
 -- the paths of the arguments are followed first, and then the stack is tested
-abbrev pub called_with : Program → ℕ → Receiver → List Task → Option (List Handed) → State → State
-called_with p r receiver work None s = with_work work (fails p 201 s)
-called_with p r receiver work (Some given) s = begun p r receiver work given s
+abbrev pub called_with : {Work Counts : Type 0} → Rules Work Counts → ℕ → Receiver → Work → Option (List Handed) → StateOver Work Counts → StateOver Work Counts
+called_with rules r receiver work None s = with_work work (fails rules.program 201 s)
+called_with rules r receiver work (Some given) s = begun rules r receiver work given s
 
-abbrev pub called : Program → ℕ → List Given → Receiver → List Task → State → State
-called p r given receiver work s = called_with p r receiver work (all_handed s.world given) s
+abbrev pub called : {Work Counts : Type 0} → Rules Work Counts → ℕ → List Given → Receiver → Work → StateOver Work Counts → StateOver Work Counts
+called rules r given receiver work s = called_with rules r receiver work (all_handed s.world given) s
 
 -- ---- an activation returns
 
@@ -133,7 +138,7 @@ abbrev pub result_in : Program → ℕ → World → Value
 result_in p r w = w.memory (local w.depth (result_of_routine p.core r))
 
 -- the caller goes on
-abbrev pub gone_back : Program → Caller → List Caller → State → State
+abbrev pub gone_back : {Work Counts : Type 0} → Program → CallerOver Work → List (CallerOver Work) → StateOver Work Counts → StateOver Work Counts
 gone_back p c cs s = discharged (p.charge s.routine) (record s {
   world = received p c.receiver (result_in p s.routine s.world) (record s.world { temps = c.temps; made = c.made; depth = s.world.depth - 1 });
   routine = c.routine;
@@ -143,5 +148,5 @@ gone_back p c cs s = discharged (p.charge s.routine) (record s {
 })
 
 -- the same where an exception leaves: there is no result
-abbrev pub gone_back_raising : Program → Caller → List Caller → State → State
+abbrev pub gone_back_raising : {Work Counts : Type 0} → Program → CallerOver Work → List (CallerOver Work) → StateOver Work Counts → StateOver Work Counts
 gone_back_raising p c cs s = gone_back p (record c { receiver = nowhere }) cs s

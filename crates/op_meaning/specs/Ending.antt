@@ -8,7 +8,7 @@ use Rattle.op_core.specs.declared.ids.ClassId.{ClassId}
 use Rattle.op_core.specs.declared.program.Core.{Core}
 use Rattle.op_core.specs.declared.routine.Routine.{Routine}
 use Rattle.op_meaning.specs.Calls.{a_value, begun}
-use Rattle.op_meaning.specs.Frames.{Program, State, Frame, walk, destruction, construction, closing, Started, Pending, finalize, empty_global, with_world, with_frames, popped, fails}
+use Rattle.op_meaning.specs.Frames.{StateOver, Rules, Frame, walk, destruction, construction, closing, Started, Pending, finalize, empty_global, with_world, with_frames, popped, fails}
 use Rattle.op_meaning.specs.Holding.{is_held}
 use Rattle.op_meaning.specs.Items.{nowhere}
 use Rattle.op_meaning.specs.Losing.{ends_place, is_empty_value, is_managed_value}
@@ -19,13 +19,13 @@ use Rattle.op_tree.specs.declared.heading.RoutineKind.TheVariants.{Destructor}
 
 -- ---- walks: one place in a step; an array is gone when its walk is done
 
-abbrev gone_array : Option ℕ → State → State
+abbrev gone_array : {Work Counts : Type 0} → Option ℕ → StateOver Work Counts → StateOver Work Counts
 gone_array None s = s
 gone_array (Some n) s = with_world (with_object n gone s.world) s
 
-abbrev pub walked : Program → List Place → Option ℕ → Option ℕ → List Frame → State → State
-walked p [] array waits rest s = popped waits rest (gone_array array s)
-walked p (q ∷ qs) array waits rest s = ends_place p q (with_frames (walk qs array waits ∷ rest) s)
+abbrev pub walked : {Work Counts : Type 0} → Rules Work Counts → List Place → Option ℕ → Option ℕ → List Frame → StateOver Work Counts → StateOver Work Counts
+walked rules [] array waits rest s = popped waits rest (gone_array array s)
+walked rules (q ∷ qs) array waits rest s = ends_place rules q (with_frames (walk qs array waits ∷ rest) s)
 
 -- ---- destructions
 
@@ -67,33 +67,34 @@ class_of w i = class_under (w.objects i)
 abbrev pub in_phase : Phase → ℕ → World → World
 in_phase phase i w = with_object i (fields (class_of w i) phase) w
 
-abbrev enters_destroy : Program → ℕ → Option ℕ → State → State
-enters_destroy p i None s = s
-enters_destroy p i (Some r) s = begun p r nowhere s.work (a_value (instance false (Some i)) ∷ []) s
+abbrev enters_destroy : {Work Counts : Type 0} → Rules Work Counts → ℕ → Option ℕ → StateOver Work Counts → StateOver Work Counts
+enters_destroy rules i None s = s
+enters_destroy rules i (Some r) s = begun rules r nowhere s.work (a_value (instance false (Some i)) ∷ []) s
 
 -- the instance has no holder, and no field was filled again
-abbrev pub may_die : Program → ℕ → State → Bool
-may_die p i s = not (is_held p s i) && (not (is_managed_value (s.world.memory (object i))) || is_empty_value (s.world.memory (object i)))
+abbrev pub may_die : {Work Counts : Type 0} → Rules Work Counts → ℕ → StateOver Work Counts → Bool
+may_die rules i s = not (is_held rules s i) && (not (is_managed_value (s.world.memory (object i))) || is_empty_value (s.world.memory (object i)))
 
 -- Destroy is entered, then the fields end, ancestors' fields first, and then the instance is dead, or the pointer is invalid
-abbrev pub destroyed : Program → ℕ → Started → Bool → List Place → Option ℕ → List Frame → State → State
-destroyed p i started false places waits rest s =
-    enters_destroy p i (destructor_of p.core (class_of s.world i)) (with_frames (destruction i started true places waits ∷ rest) (with_world (in_phase Destruction i s.world) s))
-destroyed p i started true (q ∷ qs) waits rest s = ends_place p q (with_frames (destruction i started true qs waits ∷ rest) s)
-destroyed p i started true [] waits rest s = if may_die p i s then popped waits rest (with_world (in_phase Dead i s.world) s) else fails p 204 s
+abbrev pub destroyed : {Work Counts : Type 0} → Rules Work Counts → ℕ → Started → Bool → List Place → Option ℕ → List Frame → StateOver Work Counts → StateOver Work Counts
+destroyed rules i started false places waits rest s =
+    enters_destroy rules i (destructor_of rules.program.core (class_of s.world i)) (with_frames (destruction i started true places waits ∷ rest) (with_world (in_phase Destruction i s.world) s))
+destroyed rules i started true (q ∷ qs) waits rest s = ends_place rules q (with_frames (destruction i started true qs waits ∷ rest) s)
+destroyed rules i started true [] waits rest s =
+    if may_die rules i s then popped waits rest (with_world (in_phase Dead i s.world) s) else fails rules.program 204 s
 
 -- ---- the closing
 
 -- finalization parts and globals, each taken once; then the program ends
-abbrev pub closed : Program → ℕ → List Pending → State → State
-closed p status [] s = with_world (record s.world { ending = Ended status }) s
-closed p status (finalize r ∷ pending) s = begun p r.0 nowhere s.work [] (record s { pending = pending })
-closed p status (empty_global v ∷ pending) s = ends_place p (all_of (global v.0)) (record s { pending = pending })
+abbrev pub closed : {Work Counts : Type 0} → Rules Work Counts → ℕ → List Pending → StateOver Work Counts → StateOver Work Counts
+closed rules status [] s = with_world (record s.world { ending = Ended status }) s
+closed rules status (finalize r ∷ pending) s = begun rules r.0 nowhere s.work [] (record s { pending = pending })
+closed rules status (empty_global v ∷ pending) s = ends_place rules (all_of (global v.0)) (record s { pending = pending })
 
 -- ---- a frame acts
 
-abbrev pub framed : Program → Frame → List Frame → State → State
-framed p (walk places array waits) rest s = walked p places array waits rest s
-framed p (destruction i started entered places waits) rest s = destroyed p i started entered places waits rest s
-framed p (construction i) rest s = with_frames rest (with_world (in_phase Live i s.world) s)
-framed p (closing status) rest s = closed p status s.pending s
+abbrev pub framed : {Work Counts : Type 0} → Rules Work Counts → Frame → List Frame → StateOver Work Counts → StateOver Work Counts
+framed rules (walk places array waits) rest s = walked rules places array waits rest s
+framed rules (destruction i started entered places waits) rest s = destroyed rules i started entered places waits rest s
+framed rules (construction i) rest s = with_frames rest (with_world (in_phase Live i s.world) s)
+framed rules (closing status) rest s = closed rules status s.pending s

@@ -72,12 +72,12 @@ pub data Frame : Type 0 where
   closing : (status : ℕ) → Frame
 
 -- an activation that waits for the one above it, with its temporaries, what is still to be done in it, where a result goes, and the
--- frames on it
-pub record Caller : Type 0 where
+-- frames on it; the same for each machine that runs a program, by what it has to do
+pub record CallerOver (Work : Type 0) : Type 0 where
   pub routine : ℕ
   pub temps : ℕ → Value
   pub made : List Temporary
-  pub work : List Task
+  pub work : Work
   pub receiver : Receiver
   pub frames : List Frame
 
@@ -86,29 +86,49 @@ pub data Pending : Type 0 where
   finalize : (routine : RoutineId) → Pending
   empty_global : (variable : VariableId) → Pending
 
--- The activation that everything else stands on is the program itself: it has no variables, and enters the parts of the units.
-pub record State : Type 0 where
+-- The state of a machine that runs a program, by what it has to do and what it counts. The activation that everything else stands on is the
+-- program itself: it has no variables, and enters the parts of the units.
+pub record StateOver (Work Counts : Type 0) : Type 0 where
   pub world : World
   pub routine : ℕ
-  pub work : List Task
+  -- what is still to be done in the activation under way
+  pub work : Work
   -- on the activation under way, the one that acts first
   pub frames : List Frame
-  pub callers : List Caller
+  pub callers : List (CallerOver Work)
   pub pending : List Pending
   -- the charges of all activations, walks and destructions
   pub charged : ℕ
+  -- how many places hold each name, where a machine counts them
+  pub counts : Counts
 
-abbrev pub with_work : List Task → State → State
+-- the source machine has tasks to do, and counts nothing
+abbrev pub Caller : Type 0
+Caller = CallerOver (List Task)
+
+abbrev pub State : Type 0
+State = StateOver (List Task) (Unit {0})
+
+-- What a machine goes by, beside its state: the program, what is to be done in each routine, by how many places a name is held, and what
+-- becomes of the state where it is held by one place more, or by one less.
+pub record Rules (Work Counts : Type 0) : Type 0 where
+  pub program : Program
+  pub body : ℕ → Work
+  pub number : StateOver Work Counts → ℕ → ℕ
+  pub more : ℕ → StateOver Work Counts → StateOver Work Counts
+  pub less : ℕ → StateOver Work Counts → StateOver Work Counts
+
+abbrev pub with_work : {Work Counts : Type 0} → Work → StateOver Work Counts → StateOver Work Counts
 with_work work s = record s { work = work }
 
-abbrev pub with_world : World → State → State
+abbrev pub with_world : {Work Counts : Type 0} → World → StateOver Work Counts → StateOver Work Counts
 with_world w s = record s { world = w }
 
-abbrev pub with_frames : List Frame → State → State
+abbrev pub with_frames : {Work Counts : Type 0} → List Frame → StateOver Work Counts → StateOver Work Counts
 with_frames frames s = record s { frames = frames }
 
 -- the error with this number
-abbrev pub fails : Program → ℕ → State → State
+abbrev pub fails : {Work Counts : Type 0} → Program → ℕ → StateOver Work Counts → StateOver Work Counts
 fails p n s = with_world (failed p.core n s.world) s
 
 -- ---- charges
@@ -118,16 +138,16 @@ abbrev pub frame_charge : ℕ
 frame_charge = 64
 
 -- error 202 comes exactly where a push would make the sum of the charges pass the stack
-abbrev pub charged_for : Program → ℕ → State → (State → State) → State
+abbrev pub charged_for : {Work Counts : Type 0} → Program → ℕ → StateOver Work Counts → (StateOver Work Counts → StateOver Work Counts) → StateOver Work Counts
 charged_for p bytes s push = if nat_lt p.stack (s.charged + bytes) then fails p 202 s else push (record s { charged = s.charged + bytes })
 
-abbrev pub discharged : ℕ → State → State
+abbrev pub discharged : {Work Counts : Type 0} → ℕ → StateOver Work Counts → StateOver Work Counts
 discharged bytes s = record s { charged = s.charged - bytes }
 
 -- a walk or a destruction is pushed, and the exception under way waits in it
-abbrev pub pushed : Program → (Option ℕ → Frame) → State → State
+abbrev pub pushed : {Work Counts : Type 0} → Program → (Option ℕ → Frame) → StateOver Work Counts → StateOver Work Counts
 pushed p frame s = charged_for p frame_charge s (λ t. with_frames (frame t.world.raised ∷ t.frames) (with_world (record t.world { raised = None }) t))
 
 -- a walk or a destruction is done, and what waits in it is under way again
-abbrev pub popped : Option ℕ → List Frame → State → State
+abbrev pub popped : {Work Counts : Type 0} → Option ℕ → List Frame → StateOver Work Counts → StateOver Work Counts
 popped waits rest s = with_frames rest (with_world (record s.world { raised = waits }) (discharged frame_charge s))

@@ -1,8 +1,8 @@
 -- Who holds what. The holders of a name are all places of a state that contain it, found by a walk over the whole state: there are no
 -- counts. (Free Pascal Reference Guide, "Managed types" and "Reference counting".)
-use Rattle.std.specs.Prelude.{ℕ, zero, suc, Bool, true, false, ◌&&◌, ◌||◌, List, [], ◌∷◌, ◌++◌, length, Option, Some, None, nat_eq, if◌then◌else◌}
+use Rattle.std.specs.Prelude.{ℕ, zero, suc, Bool, false, ◌&&◌, ◌||◌, List, [], ◌∷◌, ◌++◌, length, Option, Some, None, nat_eq, nat_lt, if◌then◌else◌}
 use Rattle.std.specs.List.{flat_map}
-use Rattle.op_meaning.specs.Frames.{Program, State, Caller}
+use Rattle.op_meaning.specs.Frames.{Program, StateOver, CallerOver, Rules}
 use Rattle.op_meaning.specs.Shapes.{no_type, variables_of}
 use Rattle.op_meaning.specs.Values.{Value, parts, text, line, array, instance, named, Holder, global, local, temporary, object, Place, all_of, part_at}
 use Rattle.op_meaning.specs.World.{World, Object, elements, fields, Dead, Temporary, one, whole}
@@ -54,7 +54,7 @@ abbrev pub holders_in_activation : Program → World → ℕ → ℕ → ℕ →
 holders_in_activation p w y d r temps made = holders_in_variables p w y d r ++ holders_in_temporaries w y d temps made
 
 -- the activations that wait; the last one of the list is the lowest
-abbrev pub holders_in_callers : Program → World → ℕ → List Caller → List Place
+abbrev pub holders_in_callers : {Work : Type 0} → Program → World → ℕ → List (CallerOver Work) → List Place
 holders_in_callers p w y [] = []
 holders_in_callers p w y (c ∷ cs) = holders_in_callers p w y cs ++ holders_in_activation p w y (length cs) c.routine c.temps c.made
 
@@ -68,16 +68,16 @@ holders_in_object w y n _ = []
 -- ---- the whole state
 
 -- globals, activations from the lowest one up, and all names that were given
-abbrev pub holders : Program → State → ℕ → List Place
+abbrev pub holders : {Work Counts : Type 0} → Program → StateOver Work Counts → ℕ → List Place
 holders p s y =
     flat_map (λ v. in_holder s.world y (global v.0)) p.core.globals
     ++ holders_in_callers p s.world y s.callers
     ++ holders_in_activation p s.world y (length s.callers) s.routine s.world.temps s.world.made
     ++ each s.world.next (λ n. holders_in_object s.world y n (s.world.objects n))
 
-abbrev is_some_place : List Place → Bool
-is_some_place [] = false
-is_some_place (p ∷ ps) = true
+-- the rules of a machine that looks for the holders of a name when it has to know how many there are
+abbrev pub searching : {Work : Type 0} → Program → (ℕ → Work) → Rules Work (Unit {0})
+searching p body = record { program = p; body = body; number = λ s y. length (holders p s y); more = λ y s. s; less = λ y s. s }
 
-abbrev pub is_held : Program → State → ℕ → Bool
-is_held p s y = is_some_place (holders p s y)
+abbrev pub is_held : {Work Counts : Type 0} → Rules Work Counts → StateOver Work Counts → ℕ → Bool
+is_held rules s y = nat_lt 0 (rules.number s y)

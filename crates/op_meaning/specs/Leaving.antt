@@ -2,7 +2,7 @@
 -- the loop that comes next. Temporaries of the statements that are left end first. (Free Pascal Reference Guide, "The
 -- try...finally statement"; reference of the unit System, "Exit", "Break" and "Continue".)
 use Rattle.std.specs.Prelude.{ℕ, zero, suc, ◌+◌, ℤ, pos, List, [], ◌∷◌, length, Option, None, nat_lt, if◌then◌else◌}
-use Rattle.op_meaning.specs.Frames.{State, with_work}
+use Rattle.op_meaning.specs.Frames.{StateOver, State, with_work}
 use Rattle.op_meaning.specs.Items.{finish, Turns, head_of, Task, item, mark, turn, finally, resume, catching, handling, leaving, ending, due, onto}
 use Rattle.op_meaning.specs.Values.{Value, instance}
 use Rattle.op_meaning.specs.World.{World, with_number}
@@ -46,7 +46,7 @@ name_in (instance holds n) = n
 name_in _ = None
 
 -- the exception that waits is under way again
-abbrev pub raised_again : ℕ → List Task → State → State
+abbrev pub raised_again : {Work Counts : Type 0} → ℕ → Work → StateOver Work Counts → StateOver Work Counts
 raised_again t work s = record s { world = record s.world { raised = name_in (s.world.temps t) }; work = work }
 
 -- what was left goes on, and where nothing was, so does what follows

@@ -2,7 +2,7 @@
 -- is walked over, element by element; a live instance that loses its last interface is destroyed. (Free Pascal Reference Guide,
 -- "Managed types", "Reference counting" and "Class destruction".)
 use Rattle.std.specs.Prelude.{ℕ, Bool, true, false, not, List, [], ◌∷◌, Option, Some, None, if◌then◌else◌}
-use Rattle.op_meaning.specs.Frames.{Program, State, walk, destruction, by_loss, by_handler, with_world, pushed}
+use Rattle.op_meaning.specs.Frames.{Program, StateOver, Rules, walk, destruction, by_loss, by_handler, with_world, pushed}
 use Rattle.op_meaning.specs.Holding.{each, any_below, is_held, is_name}
 use Rattle.op_meaning.specs.Values.{Value, number, parts, text, line, array, instance, empty, named, Place, object, temporary, all_of, part_at, emptied}
 use Rattle.op_meaning.specs.World.{Object, gone, chars, buffer, elements, fields, Live, Temporary, one, whole, with_object, with_temp, value_at, with_value}
@@ -36,7 +36,7 @@ walk_over p v = []
 
 -- ---- names that are lost
 
-abbrev pub falls : Program → ℕ → Object → State → State
+abbrev pub falls : {Work Counts : Type 0} → Program → ℕ → Object → StateOver Work Counts → StateOver Work Counts
 falls p n gone s = s
 falls p n (chars bytes) s = with_world (with_object n gone s.world) s
 falls p n (buffer bytes capacity) s = with_world (with_object n gone s.world) s
@@ -45,46 +45,46 @@ falls p n (fields c Live) s = pushed p (destruction n by_loss false (walk_over (
 falls p n (fields c phase) s = s
 
 -- a place had this name and has it no more
-abbrev pub loses : Program → ℕ → State → State
-loses p n s = if is_held p s n then s else falls p n (s.world.objects n) s
+abbrev pub loses : {Work Counts : Type 0} → Rules Work Counts → ℕ → StateOver Work Counts → StateOver Work Counts
+loses rules n s = let t = rules.less n s in if is_held rules t n then t else falls rules.program n (t.world.objects n) t
 
-abbrev loses_name : Program → Option ℕ → State → State
-loses_name p None s = s
-loses_name p (Some n) s = loses p n s
+abbrev loses_name : {Work Counts : Type 0} → Rules Work Counts → Option ℕ → StateOver Work Counts → StateOver Work Counts
+loses_name rules None s = s
+loses_name rules (Some n) s = loses rules n s
 
 -- a literal, the empty string and nil end without a trace, and a class reference holds nothing
-abbrev pub loses_value : Program → Value → State → State
-loses_value p (text (named n)) s = loses p n s
-loses_value p (line n) s = loses p n s
-loses_value p (array n) s = loses_name p n s
-loses_value p (instance true n) s = loses_name p n s
-loses_value p v s = s
+abbrev pub loses_value : {Work Counts : Type 0} → Rules Work Counts → Value → StateOver Work Counts → StateOver Work Counts
+loses_value rules (text (named n)) s = loses rules n s
+loses_value rules (line n) s = loses rules n s
+loses_value rules (array n) s = loses_name rules n s
+loses_value rules (instance true n) s = loses_name rules n s
+loses_value rules v s = s
 
 -- ---- a place ends
 
 -- a record or an array with managed parts becomes a walk over these, and what is one value becomes empty and is lost
-abbrev pub ends_value : Program → Place → Value → State → State
-ends_value p q (parts count part) s = pushed p (walk (walk_over q (parts count part)) None) s
-ends_value p q v s = loses_value p v (with_world (with_value q (emptied v) s.world) s)
+abbrev pub ends_value : {Work Counts : Type 0} → Rules Work Counts → Place → Value → StateOver Work Counts → StateOver Work Counts
+ends_value rules q (parts count part) s = pushed rules.program (walk (walk_over q (parts count part)) None) s
+ends_value rules q v s = loses_value rules v (with_world (with_value q (emptied v) s.world) s)
 
-abbrev pub ends_place : Program → Place → State → State
-ends_place p q s = ends_value p q (value_at s.world q) s
+abbrev pub ends_place : {Work Counts : Type 0} → Rules Work Counts → Place → StateOver Work Counts → StateOver Work Counts
+ends_place rules q s = ends_value rules q (value_at s.world q) s
 
 -- the last temporary that was made ends
-abbrev pub ends_temporary : Program → List Temporary → State → State
-ends_temporary p [] s = s
-ends_temporary p (one n ∷ made) s = loses_value p (s.world.temps n) (with_world (with_temp n (emptied (s.world.temps n)) (record s.world { made = made })) s)
-ends_temporary p (whole of n ∷ made) s = ends_place p (all_of (temporary s.world.depth of n)) (with_world (record s.world { made = made }) s)
+abbrev pub ends_temporary : {Work Counts : Type 0} → Rules Work Counts → List Temporary → StateOver Work Counts → StateOver Work Counts
+ends_temporary rules [] s = s
+ends_temporary rules (one n ∷ made) s = loses_value rules (s.world.temps n) (with_world (with_temp n (emptied (s.world.temps n)) (record s.world { made = made })) s)
+ends_temporary rules (whole of n ∷ made) s = ends_place rules (all_of (temporary s.world.depth of n)) (with_world (record s.world { made = made }) s)
 
-abbrev pub ends_last : Program → State → State
-ends_last p s = ends_temporary p s.world.made s
+abbrev pub ends_last : {Work Counts : Type 0} → Rules Work Counts → StateOver Work Counts → StateOver Work Counts
+ends_last rules s = ends_temporary rules s.world.made s
 
 -- ---- an exception is freed
 
 -- where it is live and not under way again
-abbrev pub frees_exception : Program → ℕ → Object → State → State
+abbrev pub frees_exception : {Work Counts : Type 0} → Program → ℕ → Object → StateOver Work Counts → StateOver Work Counts
 frees_exception p e (fields c Live) s = if is_name s.world.raised e then s else pushed p (destruction e by_handler false (walk_over (all_of (object e)) (s.world.memory (object e)))) s
 frees_exception p e o s = s
 
-abbrev pub freed : Program → ℕ → State → State
+abbrev pub freed : {Work Counts : Type 0} → Program → ℕ → StateOver Work Counts → StateOver Work Counts
 freed p e s = frees_exception p e (s.world.objects e) s

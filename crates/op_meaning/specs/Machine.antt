@@ -7,9 +7,9 @@ use Rattle.std.specs.List.{list_any}
 use Rattle.op_core.specs.declared.ids.ClassId.{ClassId}
 use Rattle.op_core.specs.declared.statement.Label.{Label}
 use Rattle.op_meaning.specs.Actions.{perform}
-use Rattle.op_meaning.specs.Calls.{Handed, a_value, all_handed, begun, called, gone_back}
+use Rattle.op_meaning.specs.Calls.{Handed, a_value, all_handed, begun, called, gone_back, source_rules}
 use Rattle.op_meaning.specs.Ending.{framed}
-use Rattle.op_meaning.specs.Frames.{Program, State, Frame, destruction, construction, by_free, Caller, finalize, with_work, with_world, with_frames, fails, pushed}
+use Rattle.op_meaning.specs.Frames.{Program, StateOver, CallerOver, State, Rules, Frame, destruction, construction, by_free, finalize, with_work, with_world, with_frames, fails, pushed}
 use Rattle.op_meaning.specs.Holding.{is_held}
 use Rattle.op_meaning.specs.Items.{Given, nowhere, Item, act, also, choose, select, loop, body_first, protect, leave, enter, finish, attempt, throw, rethrow, halt, construct, free, Items, Turns, turns, head_of, body_of, Cases, no_cases, cases, Task, item, mark, turn, finally, resume, catching, handling, leaving, ending, due, onto}
 use Rattle.op_meaning.specs.Leaving.{left, resumed, name_in}
@@ -47,17 +47,17 @@ turned w (turns head t true between body) work = tested w t work (another_turn (
 -- ---- temporaries
 
 abbrev pub finishes : Program → ℕ → List Task → State → State
-finishes p keep work s = if nat_lt keep (length s.world.made) then ends_last p (with_work (item (finish keep) ∷ work) s) else with_work work s
+finishes p keep work s = if nat_lt keep (length s.world.made) then ends_last (source_rules p) (with_work (item (finish keep) ∷ work) s) else with_work work s
 
 -- ---- exceptions ("The raise statement")
 
-abbrev raised_if : Program → ℕ → Object → List Task → State → State
+abbrev raised_if : {Work Counts : Type 0} → Program → ℕ → Object → Work → StateOver Work Counts → StateOver Work Counts
 raised_if p e (fields c Dead) work s = fails p 216 s
 raised_if p e (fields c phase) work s = record s { world = record s.world { raised = Some e }; work = work }
 raised_if p e o work s = fails p 216 s
 
 -- nil and what is dead is not raised
-abbrev pub throws : Program → Option ℕ → List Task → State → State
+abbrev pub throws : {Work Counts : Type 0} → Program → Option ℕ → Work → StateOver Work Counts → StateOver Work Counts
 throws p None work s = fails p 216 s
 throws p (Some e) work s = raised_if p e (s.world.objects e) work s
 
@@ -70,35 +70,35 @@ handled_in (task ∷ work) = handled_in work
 -- ---- instances ("Class instantiation" and "Class destruction")
 
 -- the next name is an instance whose fields are zero; its constructor is entered
-abbrev constructs_with : Program → ClassId → ℕ → ℕ → List Task → Option (List Handed) → State → State
-constructs_with p c r to work None s = with_work work (fails p 201 s)
-constructs_with p c r to work (Some given) s =
+abbrev constructs_with : {Work Counts : Type 0} → Rules Work Counts → ClassId → ℕ → ℕ → Work → Option (List Handed) → StateOver Work Counts → StateOver Work Counts
+constructs_with rules c r to work None s = with_work work (fails rules.program 201 s)
+constructs_with rules c r to work (Some given) s =
     let n = s.world.next in
-    let made = with_value (all_of (object n)) (zero_instance p.core c) (making (fields c Construction) s.world) in
-    begun p r nowhere work (a_value (instance false (Some n)) ∷ given) (with_frames (construction n ∷ s.frames) (with_world (with_temp to (instance false (Some n)) made) s))
+    let made = with_value (all_of (object n)) (zero_instance rules.program.core c) (making (fields c Construction) s.world) in
+    begun rules r nowhere work (a_value (instance false (Some n)) ∷ given) (with_frames (construction n ∷ s.frames) (with_world (with_temp to (instance false (Some n)) made) s))
 
-abbrev pub constructs : Program → ClassId → ℕ → List Given → ℕ → List Task → State → State
-constructs p c r given to work s = constructs_with p c r to work (all_handed s.world given) s
+abbrev pub constructs : {Work Counts : Type 0} → Rules Work Counts → ClassId → ℕ → List Given → ℕ → Work → StateOver Work Counts → StateOver Work Counts
+constructs rules c r given to work s = constructs_with rules c r to work (all_handed s.world given) s
 
 -- what an interface holds, or what is under construction or destruction, is not freed
-abbrev frees_under : Program → ℕ → Object → State → State
-frees_under p i (fields c Live) s =
-    if is_held p s i then fails p 204 s else pushed p (destruction i by_free false (walk_over (all_of (object i)) (s.world.memory (object i)))) s
-frees_under p i (fields c Dead) s = fails p 216 s
-frees_under p i (fields c phase) s = fails p 204 s
-frees_under p i o s = fails p 216 s
+abbrev frees_under : {Work Counts : Type 0} → Rules Work Counts → ℕ → Object → StateOver Work Counts → StateOver Work Counts
+frees_under rules i (fields c Live) s =
+    if is_held rules s i then fails rules.program 204 s else pushed rules.program (destruction i by_free false (walk_over (all_of (object i)) (s.world.memory (object i)))) s
+frees_under rules i (fields c Dead) s = fails rules.program 216 s
+frees_under rules i (fields c phase) s = fails rules.program 204 s
+frees_under rules i o s = fails rules.program 216 s
 
-abbrev pub frees : Program → Bool → Option ℕ → State → State
-frees p takes_nil (Some i) s = frees_under p i (s.world.objects i) s
-frees p true None s = s
-frees p false None s = fails p 216 s
+abbrev pub frees : {Work Counts : Type 0} → Rules Work Counts → Bool → Option ℕ → StateOver Work Counts → StateOver Work Counts
+frees rules takes_nil (Some i) s = frees_under rules i (s.world.objects i) s
+frees rules true None s = s
+frees rules false None s = fails rules.program 216 s
 
 -- ---- the program's end
 
 abbrev pub low_eight : ℤ → ℕ
 low_eight n = unsigned_abs (int_rem_euclid n (pos 256))
 
-abbrev pub halts : ℤ → State → State
+abbrev pub halts : {Work Counts : Type 0} → ℤ → StateOver Work Counts → StateOver Work Counts
 halts n s = closes (low_eight n) s.frames s
 
 -- ---- items
@@ -113,14 +113,14 @@ do_item p (loop l) work s = with_work (onto (head_of l) (turn l ∷ work)) s
 do_item p (body_first l) work s = with_work (onto (body_of l) (mark l ∷ work)) s
 do_item p (protect t keep is ts) work s = record s { world = with_number t (pos 0) s.world; work = onto is (finally t keep ts ∷ work) }
 do_item p (leave what) work s = left (suc what) work s
-do_item p (enter r given receiver) work s = called p r given receiver work s
+do_item p (enter r given receiver) work s = called (source_rules p) r given receiver work s
 do_item p (finish keep) work s = finishes p keep work s
 do_item p (attempt keep is cs) work s = with_work (onto is (catching keep cs ∷ work)) s
 do_item p (throw t) work s = throws p (name_in (s.world.temps t)) work s
 do_item p rethrow work s = throws p (handled_in work) work s
 do_item p (halt t) work s = halts (number_at s.world t) (with_work work s)
-do_item p (construct c r given to) work s = constructs p c r given to work s
-do_item p (free takes_nil t) work s = frees p takes_nil (name_in (s.world.temps t)) (with_work work s)
+do_item p (construct c r given to) work s = constructs (source_rules p) c r given to work s
+do_item p (free takes_nil t) work s = frees (source_rules p) takes_nil (name_in (s.world.temps t)) (with_work work s)
 
 -- ---- tasks
 
@@ -134,11 +134,11 @@ do_task p (catching keep cs) work s = with_work work s
 do_task p (handling keep i) work s = freed p i (with_work work s)
 do_task p (leaving reason) work s = left reason work s
 do_task p (ending [] result) work s = with_work work s
-do_task p (ending (v ∷ vs) result) work s = ends_place p (all_of (local s.world.depth v)) (with_work (ending vs result ∷ work) s)
+do_task p (ending (v ∷ vs) result) work s = ends_place (source_rules p) (all_of (local s.world.depth v)) (with_work (ending vs result ∷ work) s)
 do_task p (due f) work s = record s { work = work; pending = finalize f ∷ s.pending }
 
 -- an activation that has nothing more to do returns; below the last one the program ends
-abbrev pub returned : Program → List Caller → State → State
+abbrev pub returned : {Work Counts : Type 0} → Program → List (CallerOver Work) → StateOver Work Counts → StateOver Work Counts
 returned p [] s = closes 0 s.frames s
 returned p (c ∷ cs) s = gone_back p c cs s
 
@@ -148,7 +148,7 @@ done p (task ∷ work) s = do_task p task work s
 
 unfoldable pub acted : Program → List Frame → State → State
 acted p [] s = done p s.work s
-acted p (frame ∷ rest) s = framed p frame rest s
+acted p (frame ∷ rest) s = framed (source_rules p) frame rest s
 
 -- ---- the step
 

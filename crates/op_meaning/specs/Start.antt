@@ -75,6 +75,7 @@ start p input = record {
   callers = [];
   pending = first_pending p.core;
   charged = 0;
+  counts = tt;
 }
 
 -- the state after so many steps

@@ -6,8 +6,8 @@ use Rattle.op_core.specs.declared.class.Class.{Class as ClassRow}
 use Rattle.op_core.specs.declared.ids.ClassId.{ClassId}
 use Rattle.op_core.specs.declared.program.Core.{Core}
 use Rattle.op_core.specs.declared.program.ExceptionClasses.{ExceptionClasses}
-use Rattle.op_meaning.specs.Calls.{gone_back_raising}
-use Rattle.op_meaning.specs.Frames.{Program, State, Frame, destruction, construction, closing, by_free, by_constructor, Caller, with_work, with_world, with_frames, pushed, fails}
+use Rattle.op_meaning.specs.Calls.{gone_back_raising, source_rules}
+use Rattle.op_meaning.specs.Frames.{Program, StateOver, CallerOver, State, Frame, destruction, construction, closing, by_free, by_constructor, with_work, with_world, with_frames, pushed, fails}
 use Rattle.op_meaning.specs.Items.{Items, Clauses, no_clauses, for_others, clauses, Task, item, mark, turn, finally, resume, catching, handling, leaving, ending, due, onto}
 use Rattle.op_meaning.specs.Leaving.{name_in}
 use Rattle.op_meaning.specs.Losing.{ends_last, ends_place, freed, walk_over}
@@ -62,18 +62,18 @@ abbrev pub message_of : Program → World → ClassId → ℕ → List ℕ
 message_of p w c e = message_by w c e p.core p.core.exceptions
 
 -- the program ends with this status once the closing is done; a closing that is on top goes on with it
-abbrev pub closes : ℕ → List Frame → State → State
+abbrev pub closes : {Work Counts : Type 0} → ℕ → List Frame → StateOver Work Counts → StateOver Work Counts
 closes status (closing old ∷ rest) s = with_frames (closing status ∷ rest) s
 closes status frames s = with_frames (closing status ∷ frames) s
 
-abbrev unhandled_as : Program → ℕ → Object → State → State
+abbrev unhandled_as : {Work Counts : Type 0} → Program → ℕ → Object → StateOver Work Counts → StateOver Work Counts
 unhandled_as p e (fields c Dead) s = fails p 216 s
 unhandled_as p e (fields c phase) s =
     let said = codes "Unhandled " ++ class_name (slice_get p.core.classes c.0) ++ codes ": " ++ message_of p s.world c e ++ line_feed in
     closes 217 s.frames (with_world (record (reported said s.world) { raised = None }) s)
 unhandled_as p e o s = fails p 216 s
 
-abbrev pub unhandled : Program → ℕ → State → State
+abbrev pub unhandled : {Work Counts : Type 0} → Program → ℕ → StateOver Work Counts → StateOver Work Counts
 unhandled p e s = unhandled_as p e (s.world.objects e) s
 
 -- ---- an activation
@@ -123,11 +123,11 @@ catches p keep e (for_others is) work s = caught keep e (Some (None, is)) work s
 catches p keep e (clauses d v is others) work s = caught_as p keep e (s.world.objects e) (clauses d v is others) work s
 
 -- the exception that waited in a finally part is replaced, and freed
-abbrev replaces : Program → ℤ → Option ℕ → State → State
+abbrev replaces : {Work Counts : Type 0} → Program → ℤ → Option ℕ → StateOver Work Counts → StateOver Work Counts
 replaces p (pos (suc (suc (suc (suc zero))))) (Some old) s = freed p old s
 replaces p reason waited s = s
 
-abbrev pub leaves_activation : Program → ℕ → List Caller → State → State
+abbrev pub leaves_activation : {Work Counts : Type 0} → Program → ℕ → List (CallerOver Work) → StateOver Work Counts → StateOver Work Counts
 leaves_activation p e [] s = unhandled p e s
 leaves_activation p e (c ∷ cs) s = gone_back_raising p c cs s
 
@@ -139,20 +139,20 @@ unwound_at p e (finally t keep ts ∷ work) s = record s {
 unwound_at p e (resume t keep ∷ work) s = replaces p (number_at s.world t) (name_in (s.world.temps (t + 1))) (with_work work s)
 unwound_at p e (catching keep cs ∷ work) s = catches p keep e cs work s
 unwound_at p e (handling keep i ∷ work) s = freed p i (with_work work s)
-unwound_at p e (ending (v ∷ vs) result ∷ work) s = ends_place p (all_of (local s.world.depth v)) (with_work (ending vs result ∷ work) s)
-unwound_at p e (ending [] (Some v) ∷ work) s = ends_place p (all_of (local s.world.depth v)) (with_work (ending [] None ∷ work) s)
+unwound_at p e (ending (v ∷ vs) result ∷ work) s = ends_place (source_rules p) (all_of (local s.world.depth v)) (with_work (ending vs result ∷ work) s)
+unwound_at p e (ending [] (Some v) ∷ work) s = ends_place (source_rules p) (all_of (local s.world.depth v)) (with_work (ending [] None ∷ work) s)
 unwound_at p e (ending [] None ∷ work) s = with_work work s
 unwound_at p e _ s = leaves_activation p e s.callers s
 
 -- temporaries that were made behind it end first
 abbrev pub unwound_to : Program → ℕ → List Task → State → State
-unwound_to p e work s = if nat_lt (keep_at work) (length s.world.made) then ends_last p (with_work work s) else unwound_at p e work s
+unwound_to p e work s = if nat_lt (keep_at work) (length s.world.made) then ends_last (source_rules p) (with_work work s) else unwound_at p e work s
 
 -- ---- frames on an activation
 
 -- A destruction that Free started goes on while the exception waits; any other destruction makes it unhandled at once. A construction
 -- gives way to a destruction.
-abbrev pub unwound_frame : Program → ℕ → Frame → List Frame → State → State
+abbrev pub unwound_frame : {Work Counts : Type 0} → Program → ℕ → Frame → List Frame → StateOver Work Counts → StateOver Work Counts
 unwound_frame p e (destruction i by_free entered places waits) rest s =
     with_frames (destruction i by_free entered places (Some e) ∷ rest) (with_world (record s.world { raised = None }) s)
 unwound_frame p e (construction i) rest s = pushed p (destruction i by_constructor false (walk_over (all_of (object i)) (s.world.memory (object i)))) (with_frames rest s)

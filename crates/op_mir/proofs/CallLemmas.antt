@@ -2,7 +2,7 @@
 use Rattle.std.proofs.Common.{◌≡◌, ℕ, ◌+◌, ◌-◌, List, [], ◌∷◌, Option, Some, None, refl, sym, ap, ◌∙◌, subst}
 use Rattle.std.specs.Prelude.{Bool, true, false, nat_lt, if◌then◌else◌}
 use Rattle.std.specs.List.{sum_by}
-use Rattle.op_meaning.specs.Calls.{Handed, all_handed, entered, received, result_in, begun, called_with, caller_of, body_work, env_of, gone_back}
+use Rattle.op_meaning.specs.Calls.{Handed, all_handed, entered, received, result_in, begun, called_with, caller_of, body_work, env_of, gone_back, source_rules}
 use Rattle.op_meaning.specs.Costs.{given_bytes}
 use Rattle.op_meaning.specs.Expressions.{first_here}
 use Rattle.op_meaning.specs.Frames.{Program, State, Caller, closing, with_work, with_frames, fails}
@@ -14,7 +14,7 @@ use Rattle.op_meaning.specs.Unwinding.{closes}
 use Rattle.op_meaning.specs.World.{Running, Ended}
 use Rattle.op_mir.specs.Code.{Instr, do_call, ret, Exits, routine_exits, blocks_of, blocks_in, items_of}
 use Rattle.op_mir.specs.Going.{At, CallerGoes, CallersGo, image, Goes}
-use Rattle.op_mir.specs.Machine.{code_of, MirCaller, block_at, mir_caller_of, mir_begun, mir_called_with, mir_closes, mir_returned, instr_bytes, execute}
+use Rattle.op_mir.specs.Machine.{code_of, code_rules, tables, MirCaller, block_at, instr_bytes, execute}
 use Rattle.op_mir.specs.Plain.{IsPlain, Exists, IsPlainWorld, ArePlainFrames, ArePlainPending}
 use Rattle.op_mir.proofs.BlockLemmas.{at_beginning, blocks_of_routine, onto_both}
 use Rattle.op_mir.proofs.PlainLemmas.{AreNameless, IfNameless, nameless_all, plain_entered, plain_received, failed_ended}
@@ -44,11 +44,11 @@ ended_goes p s ms rest status ended frames callers pending = record {
   pending = pending;
 }
 
-pub begun_goes : (p : Program) → IsPlain p → (s : State) (ms : List MirCaller) (r : ℕ) (receiver : Receiver) (work : List Task) (given : List Handed) (out : Exits) (behind : List Instr) → Exists p r → AreNameless given → IsPlainWorld s.world → ArePlainFrames s.frames → CallersGo p s.callers ms → ArePlainPending p s.pending → (s.frames ≡ [] → At p (blocks_in p s.routine) out work behind) → Goes p (begun p r receiver work given s) (mir_begun (code_of p) r receiver given (image s behind ms))
+pub begun_goes : (p : Program) → IsPlain p → (s : State) (ms : List MirCaller) (r : ℕ) (receiver : Receiver) (work : List Task) (given : List Handed) (out : Exits) (behind : List Instr) → Exists p r → AreNameless given → IsPlainWorld s.world → ArePlainFrames s.frames → CallersGo p s.callers ms → ArePlainPending p s.pending → (s.frames ≡ [] → At p (blocks_in p s.routine) out work behind) → Goes p (begun (source_rules p) r receiver work given s) (begun (code_rules (code_of p)) r receiver behind given (image s behind ms))
 begun_goes p plain s ms r receiver work given out behind exists nameless world frames callers pending at = by (nat_lt p.stack (s.charged + p.charge r))
   where
     x : MirCaller
-    x = mir_caller_of (image s behind ms) receiver
+    x = caller_of (image s behind ms) receiver behind
 
     y : Caller
     y = caller_of s receiver work
@@ -69,7 +69,7 @@ begun_goes p plain s ms r receiver work given out behind exists nameless world f
       pending = pending;
     }
 
-called_goes : (p : Program) → IsPlain p → (s : State) (ms : List MirCaller) (r : ℕ) (receiver : Receiver) (work : List Task) (given : Option (List Handed)) (out : Exits) (behind : List Instr) → Exists p r → IfNameless given → Here p s ms → At p (blocks_in p s.routine) out work behind → Goes p (called_with p r receiver work given s) (mir_called_with (code_of p) r receiver given (image s behind ms))
+called_goes : (p : Program) → IsPlain p → (s : State) (ms : List MirCaller) (r : ℕ) (receiver : Receiver) (work : List Task) (given : Option (List Handed)) (out : Exits) (behind : List Instr) → Exists p r → IfNameless given → Here p s ms → At p (blocks_in p s.routine) out work behind → Goes p (called_with (source_rules p) r receiver work given s) (called_with (code_rules (code_of p)) r receiver behind given (image s behind ms))
 called_goes p plain s ms r receiver work None out behind exists nameless h at =
     ended_goes p (with_work work (fails p 201 s)) ms behind 201 (failed_ended p.core plain.exceptions 201 s.world) (subst ArePlainFrames (sym h.frames) tt) h.callers h.pending
 called_goes p plain s ms r receiver work (Some given) out behind exists nameless h at =
@@ -87,17 +87,17 @@ pub return_goes : (p : Program) → IsPlain p → (s : State) (ms : List MirCall
 unfolding execute
 return_goes p plain s ms out rest h (o, e, comes) = by s.callers ms h.callers h.callers (λ t g. advance p s t ms rest ret [] h comes g)
   where
-    by : (ss : List Caller) (ms' : List MirCaller) → CallersGo p ss ms' → CallersGo p s.callers ms → ((t : State) → Goes p t (mir_returned (code_of p) ms' (image s [] ms)) → Reaches p 1 (instr_bytes p.core s.routine ret) s t (image s rest ms)) → Reaches p 1 (instr_bytes p.core s.routine ret) s (returned p ss s) (image s rest ms)
+    by : (ss : List Caller) (ms' : List MirCaller) → CallersGo p ss ms' → CallersGo p s.callers ms → ((t : State) → Goes p t (returned (tables (code_of p)) ms' (image s [] ms)) → Reaches p 1 (instr_bytes p.core s.routine ret) s t (image s rest ms)) → Reaches p 1 (instr_bytes p.core s.routine ret) s (returned p ss s) (image s rest ms)
     by [] [] cs all go =
         let u = with_frames (closing 0 ∷ []) s in
-        let below : mir_closes 0 s.frames (image s [] ms) ≡ image u [] ms = ap (λ f. mir_closes 0 f (image s [] ms)) h.frames in
+        let below : closes 0 s.frames (image s [] ms) ≡ image u [] ms = ap (λ f. closes 0 f (image s [] ms)) h.frames in
         let above : u ≡ closes 0 s.frames s = ap (λ f. closes 0 f s) (sym h.frames) in
         let goes : Goes p u (image u [] ms) = record { same = refl; goes_on = λ running. record { world = h.world; out = out; at = λ none. absurd (cc none) }; frames = tt; callers = all; pending = h.pending } in
         subst (λ v. Reaches p 1 (instr_bytes p.core s.routine ret) s v (image s rest ms)) above (go u (subst (λ m. Goes p u m) (sym below) goes))
     by (y ∷ ys) (x ∷ xs) (g, gs) all go =
         let w = received p y.receiver (result_in p s.routine s.world) (record s.world { temps = y.temps; made = y.made; depth = s.world.depth - 1 }) in
         let plain_w : IsPlainWorld w = plain_received p.core plain.exceptions p refl y.receiver (result_in p s.routine s.world) (record s.world { temps = y.temps; made = y.made; depth = s.world.depth - 1 }) (h.world.memory _) (record { raised = h.world.raised; made = g.plain.made; temps = g.plain.temps; memory = h.world.memory }) in
-        let below = ap (λ z. mir_returned (code_of p) (z ∷ xs) (image s [] ms)) g.same in
+        let below = ap (λ z. returned (tables (code_of p)) (z ∷ xs) (image s [] ms)) g.same in
         go (gone_back p y ys s) (record { same = below; goes_on = λ running. record { world = plain_w; out = g.out; at = g.at }; frames = g.plain.frames; callers = gs; pending = h.pending })
     by [] (x ∷ xs) cs all go = absurd cs
     by (y ∷ ys) [] cs all go = absurd cs

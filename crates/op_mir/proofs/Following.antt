@@ -16,6 +16,7 @@ use Rattle.op_core.specs.declared.program.Core.{Core}
 use Rattle.op_core.specs.declared.program.Unit.{Unit as UnitRow}
 use Rattle.op_meaning.specs.Actions.{Action, constant, load, store, copy, look, begin_with, pick, arithmetic, compare, negate, complement, invert, absolute, odd, upper, low_bits, check, neighbour, single, span, combine, contains, check_set, write_number, write_truth, write_char, write_text}
 use Rattle.op_meaning.specs.Costs.{numbers, action_bytes, given_bytes, work_bytes, cost}
+use Rattle.op_meaning.specs.Calls.{source_rules}
 use Rattle.op_meaning.specs.Ending.{closed}
 use Rattle.op_meaning.specs.Frames.{Program, State, Frame, Caller, Pending, walk, destruction, construction, closing, finalize, empty_global}
 use Rattle.op_meaning.specs.Items.{nowhere, act, also, choose, select, loop, body_first, protect, leave, enter, finish, attempt, throw, rethrow, halt, construct, free, Task, item, mark, turn, finally, resume, catching, handling, leaving, ending, due}
@@ -26,7 +27,7 @@ use Rattle.op_meaning.specs.Values.{Holder, global, local, temporary, object}
 use Rattle.op_meaning.specs.World.{World, Ending, Running, Ended}
 use Rattle.op_mir.specs.Code.{Instr, do_call, make_due, ret, Exits, routine_exits, unit_code, program_blocks, blocks_of, blocks_in, items_of}
 use Rattle.op_mir.specs.Going.{At, CallersGo, image, IsUnderWay, Goes}
-use Rattle.op_mir.specs.Machine.{code_of, MirState, MirCaller, block_at, mir_closed, mir_acted, mir_stepped, mir_step_by, mir_step, mir_cost, mir_cost_by, charge_here, moved, instr_bytes, next_bytes, mir_machine, mir_start, shown_between}
+use Rattle.op_mir.specs.Machine.{code_of, code_rules, MirState, MirCaller, block_at, mir_acted, mir_stepped, mir_step_by, mir_step, mir_cost, mir_cost_by, charge_here, moved, instr_bytes, next_bytes, mir_machine, mir_start, shown_between}
 use Rattle.op_mir.specs.Managed.{managed, CodeFollows, CodeAgrees}
 use Rattle.op_mir.specs.Plain.{IsPlain, Exists, IfExists, ArePlainUnits, IsNameless, ArePlainFrames, ArePlainPending}
 use Rattle.op_mir.proofs.BlockLemmas.{has_from, at_block}
@@ -116,34 +117,34 @@ by_itself p s t ms from last status others world here is running waits step goes
     let after : last.world ≡ t.world = ap (λ (m : MirState). m.world) goes.same in
     let goes_on : from.world.ending ≡ Running = ap (λ (w : World). w.ending) world ∙ running in
     let shows =
-    ap (λ l. shown_between p.core l from.world (mir_step (code_of p) from).world) (looks_never from.rest from.frames)
+    ap (λ l. shown_between p.core l from.world (mir_step (code_of p) from).world) (looks_never from.work from.frames)
     ∙ ap (λ (m : MirState). shown_between p.core false from.world m.world) step
     ∙ ap (λ w. shown_between p.core false w last.world) world
     ∙ ap (λ w. shown_between p.core false s.world w) after in
-    let moves : next_bytes p.core from.routine from.rest from.frames ≡ 0 = ap (λ f. next_bytes p.core from.routine from.rest f) is in
+    let moves : next_bytes p.core from.routine from.work from.frames ≡ 0 = ap (λ f. next_bytes p.core from.routine from.work f) is in
     let cost = price_is p s t ms from last 0 world here moves waits goes in
     let none : price p s t 0 ≡ silent p s 0 + price p s t 0 = omega arith in
     let r : Reaches p 0 0 s t from = record { more = 0; last = last; goes = goes; steps = one_step p from last _ (silent p s 0 + price p s t 0) goes_on step shows (cost ∙ none) } in
     at_most p 0 3 0 0 s t from (omega arith) (omega arith) r
 
-closing_goes : (p : Program) → IsPlain p → (s : State) (ms : List MirCaller) (rest : List Instr) (status : ℕ) (others : List Frame) → s.frames ≡ closing status ∷ others → s.world.ending ≡ Running → IsUnderWay p s rest → ArePlainFrames s.frames → CallersGo p s.callers ms → ArePlainPending p s.pending → Reaches p 3 0 s (closed p status s.pending s) (image s rest ms)
+closing_goes : (p : Program) → IsPlain p → (s : State) (ms : List MirCaller) (rest : List Instr) (status : ℕ) (others : List Frame) → s.frames ≡ closing status ∷ others → s.world.ending ≡ Running → IsUnderWay p s rest → ArePlainFrames s.frames → CallersGo p s.callers ms → ArePlainPending p s.pending → Reaches p 3 0 s (closed (source_rules p) status s.pending s) (image s rest ms)
 unfolding mir_step mir_step_by mir_stepped mir_acted
 closing_goes p plain s ms rest status others is running under frames callers pending = by s.pending refl pending
   where
     m : MirState
     m = image s rest ms
 
-    steps_to : mir_step (code_of p) m ≡ mir_closed (code_of p) status s.pending m
+    steps_to : mir_step (code_of p) m ≡ closed (code_rules (code_of p)) status s.pending m
     steps_to = ap (λ e. mir_step_by (code_of p) e m) running ∙ ap (λ o. mir_stepped (code_of p) o m) under.world.raised ∙ ap (λ f. mir_acted (code_of p) f m) is
 
-    by : (pd : List Pending) → s.pending ≡ pd → ArePlainPending p pd → Reaches p 3 0 s (closed p status pd s) m
+    by : (pd : List Pending) → s.pending ≡ pd → ArePlainPending p pd → Reaches p 3 0 s (closed (source_rules p) status pd s) m
     by [] e plain_pd =
-        let t = closed p status [] s in
-        by_itself p s t ms m (image t rest ms) status others refl refl is running callers (steps_to ∙ ap (λ pd. mir_closed (code_of p) status pd m) e)
+        let t = closed (source_rules p) status [] s in
+        by_itself p s t ms m (image t rest ms) status others refl refl is running callers (steps_to ∙ ap (λ pd. closed (code_rules (code_of p)) status pd m) e)
         (ended_goes p t ms rest status refl frames callers pending)
     by (finalize r ∷ pd) e plain_pd =
         let s' = record s { pending = pd } in
-        by_itself p s (closed p status (finalize r ∷ pd) s) ms m (mir_closed (code_of p) status (finalize r ∷ pd) m) status others refl refl is running callers (steps_to ∙ ap (λ x. mir_closed (code_of p) status x m) e)
+        by_itself p s (closed (source_rules p) status (finalize r ∷ pd) s) ms m (closed (code_rules (code_of p)) status (finalize r ∷ pd) m) status others refl refl is running callers (steps_to ∙ ap (λ x. closed (code_rules (code_of p)) status x m) e)
         (begun_goes p plain s' ms r.0 nowhere s.work [] under.out rest plain_pd.0 no_more under.world frames callers plain_pd.1 under.at)
     by (empty_global v ∷ pd) e plain_pd = absurd plain_pd
 
@@ -159,7 +160,7 @@ unfolding acted
 frames_go p plain s ms rest [] is running under plain_frames callers pending =
     task_goes p plain s ms under.out s.work rest refl (record { running = running; world = under.world; frames = is; callers = callers; pending = pending }) (under.at is)
 frames_go p plain s ms rest (closing status ∷ others) is running under plain_frames callers pending =
-    at_most p 3 3 0 (numbers 1) s (closed p status s.pending s) (image s rest ms) (omega arith) (omega arith) (closing_goes p plain s ms rest status others is running under (subst ArePlainFrames (sym is) plain_frames) callers pending)
+    at_most p 3 3 0 (numbers 1) s (closed (source_rules p) status s.pending s) (image s rest ms) (omega arith) (omega arith) (closing_goes p plain s ms rest status others is running under (subst ArePlainFrames (sym is) plain_frames) callers pending)
 frames_go p plain s ms rest (walk places lost waits ∷ others) is running under plain_frames callers pending = absurd plain_frames
 frames_go p plain s ms rest (destruction i started entered places waits ∷ others) is running under plain_frames callers pending = absurd plain_frames
 frames_go p plain s ms rest (construction i ∷ others) is running under plain_frames callers pending = absurd plain_frames
@@ -168,10 +169,10 @@ step_goes : (p : Program) → IsPlain p → (s : State) (m : MirState) → s.wor
 unfolding step step_by stepped
 step_goes p plain s m running g =
     let under = g.goes_on running in
-    let r = frames_go p plain s m.callers m.rest s.frames refl running under g.frames g.callers g.pending in
+    let r = frames_go p plain s m.callers m.work s.frames refl running under g.frames g.callers g.pending in
     let above : step_by p s.world.ending s ≡ acted p s.frames s = ap (λ e. step_by p e s) running ∙ ap (λ o. stepped p o s) under.world.raised in
     subst (λ x. Reaches p 3 (acting p s s.frames) s (step_by p s.world.ending s) x) (sym g.same)
-    (subst (λ t. Reaches p 3 (acting p s s.frames) s t (image s m.rest m.callers)) (sym above) r)
+    (subst (λ t. Reaches p 3 (acting p s s.frames) s t (image s m.work m.callers)) (sym above) r)
 
 -- ---- costs
 
@@ -215,7 +216,7 @@ ended_stretch p s m status ended g =
     let below : mir_step_by (code_of p) m.world.ending m ≡ m = ap (λ e. mir_step_by (code_of p) e m) over in
     let q = path_step M (λ x. Unit {0}) m tt in
     let silent =
-    ap (λ l. shown_between p.core l m.world (mir_step_by (code_of p) m.world.ending m).world) (looks_never m.rest m.frames)
+    ap (λ l. shown_between p.core l m.world (mir_step_by (code_of p) m.world.ending m).world) (looks_never m.work m.frames)
     ∙ ap (λ (x : MirState). shown_between p.core false m.world x.world) below
     ∙ shown_none p.core m.world m.world.temps in
     let free : mir_cost (code_of p) m ≡ 0 = ap (λ e. mir_cost_by (code_of p) m e) over in

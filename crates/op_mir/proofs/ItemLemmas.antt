@@ -14,7 +14,7 @@ use Rattle.op_meaning.specs.Unwinding.{closes}
 use Rattle.op_meaning.specs.World.{World, Temporary, number_at, with_number}
 use Rattle.op_mir.specs.Code.{Instr, do_act, jump, when, unless, switch, dispatch, make_due, stop, Exits, loop_exits, finally_exits, routine_exits, continued, branch_if, branch_unless, code, code_cases, to_body, between_code, blocks_in}
 use Rattle.op_mir.specs.Going.{Has, Comes, LoopStands, FinallyStands, At, image, Goes}
-use Rattle.op_mir.specs.Machine.{code_of, MirState, MirCaller, block_at, block_or, go_to, go_if, arm_for, dispatched, mir_closes, moved, execute}
+use Rattle.op_mir.specs.Machine.{code_of, MirState, MirCaller, block_at, block_or, go_to, go_if, arm_for, dispatched, moved, execute}
 use Rattle.op_mir.specs.Plain.{IsPlain, ArePlain, ArePlainTurns, ArePlainCases, IsWay, IsPlainWorld, ArePlainFrames}
 use Rattle.op_mir.proofs.BlockLemmas.{has_front, has_back, at_continued, at_block, at_onto}
 use Rattle.op_mir.proofs.PlainLemmas.{plain_perform, plain_number, name_in_nameless, below_none}
@@ -314,7 +314,7 @@ unfolding do_item execute
 halt_goes p s ms t out work rest h (behind, pi, st, at) =
     let n = low_eight (number_at s.world t) in
     let u = with_frames (closing n ∷ []) (with_work work s) in
-    let below = ap (λ f. mir_closes n f (image s behind ms)) h.frames in
+    let below = ap (λ f. closes n f (image s behind ms)) h.frames in
     let goes : Goes p u (image u behind ms) = record { same = refl; goes_on = λ _. record { world = h.world; out = out; at = λ e. at }; frames = tt; callers = h.callers; pending = h.pending } in
     let above : u ≡ closes n s.frames (with_work work s) = ap (λ f. closes n f (with_work work s)) (sym h.frames) in
     subst (λ v. Reaches p 1 0 s v (image s rest ms)) above

@@ -2,6 +2,7 @@ pub mod BlockLemmas
 pub mod CallLemmas
 pub mod CodeRuns
 pub mod Following
+pub mod FrameRuns
 pub mod ItemLemmas
 pub mod NeedLemmas
 pub mod PlainLemmas

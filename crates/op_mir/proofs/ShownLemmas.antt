@@ -59,7 +59,7 @@ looks_never rest (frame ∷ frames) = refl
 -- ---- the source machine
 
 -- its step shows what lies between its worlds, by the first frame and the first task
-shows_at : (p : Program) (w : World) (now : ℕ) (callers : List Caller) (pending : List Pending) (charged : ℕ) (work : List Task) (frames : List Frame) → let s : State = record { world = w; routine = now; work = work; frames = frames; callers = callers; pending = pending; charged = charged } in shows p s ≡ shown_between p.core false w (step p s).world
+shows_at : (p : Program) (w : World) (now : ℕ) (callers : List Caller) (pending : List Pending) (charged : ℕ) (work : List Task) (frames : List Frame) → let s : State = record { world = w; routine = now; work = work; frames = frames; callers = callers; pending = pending; charged = charged; counts = tt } in shows p s ≡ shown_between p.core false w (step p s).world
 shows_at p w now callers pending charged [] [] = refl
 shows_at p w now callers pending charged (item (act a) ∷ work) [] = refl
 shows_at p w now callers pending charged (item (also truth t is) ∷ work) [] = refl

@@ -63,7 +63,7 @@ one_step p from to events most running step shows cost =
     record { ends = q.ends ∙ step; shows = q.shows ∙ shows; within = subst (λ n. spent M 1 from ≤ n) is q.within; moments = λ j less. tt }
 
 -- what a step costs below is its price
-pub price_is : (p : Program) (s t : State) (ms : List MirCaller) (from m : MirState) (bytes : ℕ) → from.world ≡ s.world → from.routine ≡ s.routine → next_bytes p.core from.routine from.rest from.frames ≡ bytes → CallersGo p s.callers from.callers → Goes p t m → mir_effort (code_of p) from m ≡ price p s t bytes
+pub price_is : (p : Program) (s t : State) (ms : List MirCaller) (from m : MirState) (bytes : ℕ) → from.world ≡ s.world → from.routine ≡ s.routine → next_bytes p.core from.routine from.work from.frames ≡ bytes → CallersGo p s.callers from.callers → Goes p t m → mir_effort (code_of p) from m ≡ price p s t bytes
 price_is p s t ms from m bytes world here same waits goes =
     let world' : m.world ≡ t.world = ap (λ (x : MirState). x.world) goes.same in
     let routine : m.routine ≡ t.routine = ap (λ (x : MirState). x.routine) goes.same in

@@ -76,8 +76,8 @@ At p bs out (ending variables result ∷ work) rest = ⊥
 pub record CallerGoes (p : Program) (s : Caller) (m : MirCaller) : Type 0 where
   pub plain : IsPlainCaller s
   pub out : Exits
-  pub same : m ≡ record { routine = s.routine; temps = s.temps; made = s.made; rest = m.rest; receiver = s.receiver; frames = s.frames }
-  pub at : s.frames ≡ [] → At p (blocks_in p s.routine) out s.work m.rest
+  pub same : m ≡ record { routine = s.routine; temps = s.temps; made = s.made; work = m.work; receiver = s.receiver; frames = s.frames }
+  pub at : s.frames ≡ [] → At p (blocks_in p s.routine) out s.work m.work
 
 abbrev pub CallersGo : Program → List Caller → List MirCaller → Type 0
 CallersGo p [] [] = Unit {0}
@@ -90,11 +90,12 @@ abbrev pub image : State → List Instr → List MirCaller → MirState
 image s rest callers = record {
   world = s.world;
   routine = s.routine;
-  rest = rest;
+  work = rest;
   frames = s.frames;
   callers = callers;
   pending = s.pending;
   charged = s.charged;
+  counts = tt;
 }
 
 -- What a state of the plain class has while it goes on. While it closes, the work below is done no more.
@@ -104,8 +105,8 @@ pub record IsUnderWay (p : Program) (s : State) (rest : List Instr) : Type 0 whe
   pub at : s.frames ≡ [] → At p (blocks_in p s.routine) out s.work rest
 
 pub record Goes (p : Program) (s : State) (m : MirState) : Type 0 where
-  pub same : m ≡ image s m.rest m.callers
-  pub goes_on : s.world.ending ≡ Running → IsUnderWay p s m.rest
+  pub same : m ≡ image s m.work m.callers
+  pub goes_on : s.world.ending ≡ Running → IsUnderWay p s m.work
   pub frames : ArePlainFrames s.frames
   pub callers : CallersGo p s.callers m.callers
   pub pending : ArePlainPending p s.pending
