@@ -3,5 +3,5 @@ program hello;
 
 begin
   WriteLn('Hello from opc.');
-  WriteLn('This line was compiled to RISC-V and run, and the proof says that it comes out as written.');
+  WriteLn('This line was compiled to RISC-V and run.');
 end.

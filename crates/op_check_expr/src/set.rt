@@ -59,11 +59,14 @@ pub fn ranged(
 {
     done.0?;
     done.1?;
-    let (Some(a), Some(b)) = (a, b) else {
-        put(out, None);
-        return Ok(());
+    let made = match a {
+        Some(a) => match b {
+            Some(b) => Some(Member::Range(places.0, a, places.1, b)),
+            None => None,
+        },
+        None => None,
     };
-    put(out, Some(Member::Range(places.0, a, places.1, b)));
+    put(out, made);
     Ok(())
 }
 

@@ -4,6 +4,8 @@ pub mod Placing
 pub mod Rows
 pub mod Clear
 pub mod Visiting
+pub mod Finding
+pub mod Marking
 pub mod UnitSteps
 pub mod Law
 pub mod Told

@@ -10,6 +10,7 @@ pub mod Declaring
 pub mod Headings
 pub mod Routines
 pub mod Uses
+pub mod Numbering
 pub mod System
 pub mod Interfaces
 pub mod Programs

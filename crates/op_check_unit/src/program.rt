@@ -16,11 +16,11 @@ ghost use Rattle.op_tree.specs.Statement.{stmts_of};
 
 use crate::Declarer;
 use crate::body::{Owned, place_all};
+use crate::exports::Exports;
 use crate::first_value::{Begun, begin_all};
 use crate::heading::Head;
 use crate::interfaces::interface_order;
-use crate::units::no_exports;
-use crate::uses::Export;
+use crate::unit_names::UnitFiles;
 use crate::variable::copy_of;
 use op_base::{NoMemory, Place, Refusal, Rule, Text};
 use op_core::{CheckError, Core, FirstRefusal, Routine, RoutineId, Run, Unit as UnitRow, UnitId};
@@ -72,22 +72,23 @@ impl Declarer {
         ensures { IfOk result (λ _. Declared (files_mean (program_tree (program_of program.now) ∷ map file_of files.now) order.now (here_of self.old)) self.old self.new) }
     {
         self.blank_units(order)?;
-        let mut exports = no_exports(self.alloc, order.len())?;
-        let numbers = interface_order(self.alloc, order, files)?;
-        self.interfaces(order, files, numbers.as_slice(), &mut exports)?;
-        self.parts_of_program(program, files, order, exports.as_slice())
+        let files = UnitFiles::new(self.alloc, files)?;
+        let mut exports = Exports::blank(self.alloc, order.len())?;
+        let numbers = interface_order(self.alloc, order, &files)?;
+        self.interfaces(order, &files, numbers.as_slice(), &mut exports)?;
+        self.parts_of_program(program, &files, order, &exports)
     }
 
     /// What stands behind the interface parts.
     fn parts_of_program(
         &mut self,
         program: &Program,
-        files: &[Tree],
+        files: &UnitFiles,
         order: &[Text],
-        exports: &[Option<Export>],
+        exports: &Exports,
     ) -> Result<(), NoMemory>
         requires { self.old.sink.kept ≡ None }
-        ensures { (faults : ℕ → Faults) → AllTell exports.now faults → IfOk result (λ _. Declared (parts_of_program (program_of program.now) order.now (map file_of files.now) faults (outline_of exports.now self.old)) self.old self.new) }
+        ensures { (faults : ℕ → Faults) → AllTell exports.now faults → IfOk result (λ _. Declared (parts_of_program (program_of program.now) order.now (map file_of files.now.trees.now) faults (outline_of exports.now self.old)) self.old self.new) }
     {
         self.units(files, exports)?;
         if self.sink.kept.is_some() {
@@ -98,7 +99,7 @@ impl Declarer {
     }
 
     /// The program itself, the last of the units.
-    fn program(&mut self, exports: &[Option<Export>], program: &Program) -> Result<(), NoMemory>
+    fn program(&mut self, exports: &Exports, program: &Program) -> Result<(), NoMemory>
         ensures { IfOk result (λ _. Declares (program_declared exports.now (program_of program.now) (here_of self.old)) self.old self.new) }
     {
         let start = self.core.globals.as_slice().len();

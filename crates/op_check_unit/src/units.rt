@@ -1,6 +1,6 @@
 //! Units: first the interface parts of all of them, and then the rest of each in their order.
 ghost use Rattle.op_judgement.specs.Steps.{done};
-ghost use Rattle.std.specs.Prelude.{◌≡◌, ◌++◌, [], ◌∷◌, ℕ, IfOk, None, Some, map, replicate, slice_get, slice_set};
+ghost use Rattle.std.specs.Prelude.{◌≡◌, ◌++◌, [], ◌∷◌, ℕ, IfOk, None, Some, map, slice_get, slice_set};
 ghost use Rattle.std.specs.Option.{option_copied, option_map};
 ghost use Rattle.op_check_unit.specs.Outlines.{AllTell, Tells, is_blank, outline_of};
 ghost use Rattle.op_check_unit.specs.Programs.{all_outlined, blank_unit, faulted, global_counted, globals_counted, implementation_means, in_unit, interface_means, outer, outlined, reopened, unit_completes, unit_declared, unit_means, units_mean, with_interface, with_units};
@@ -9,11 +9,13 @@ ghost use Rattle.op_core.specs.Faults.{Faults};
 ghost use Rattle.op_tree.specs.File.{file_of, unit_of};
 
 use crate::Declarer;
-use crate::interfaces::{unit_at, unit_named};
+use crate::exports::Exports;
+use crate::interfaces::unit_at;
+use crate::unit_names::UnitFiles;
 use crate::uses::Export;
 use op_base::{NoMemory, Place, Text};
 use op_core::{Core, Run, Table, TypeId, Unit as UnitRow, UnitId, VariableId, size_of};
-use op_tree::{Tree, Unit};
+use op_tree::Unit;
 use std::alloc::Global;
 
 impl Declarer {
@@ -42,12 +44,12 @@ impl Declarer {
     pub fn interfaces(
         &mut self,
         order: &[Text],
-        files: &[Tree],
+        files: &UnitFiles,
         numbers: &[usize],
-        exports: &mut Table<Option<Export>>,
+        exports: &mut Exports,
     ) -> Result<(), NoMemory>
         requires { self.old.sink.kept ≡ None }
-        ensures outline { IfOk result (λ _. outline_of exports.new self.new ≡ all_outlined order.now (map file_of files.now) numbers.now (outline_of exports.old self.old)) }
+        ensures outline { IfOk result (λ _. outline_of exports.new self.new ≡ all_outlined order.now (map file_of files.now.trees.now) numbers.now (outline_of exports.old self.old)) }
         ensures clear { IfOk result (λ _. self.new.sink.kept ≡ None) }
     {
         for number in numbers {
@@ -60,29 +62,29 @@ impl Declarer {
     fn interface_if_any(
         &mut self,
         order: &[Text],
-        files: &[Tree],
+        files: &UnitFiles,
         number: usize,
-        exports: &mut Table<Option<Export>>,
+        exports: &mut Exports,
     ) -> Result<(), NoMemory>
         requires { self.old.sink.kept ≡ None }
-        ensures outline { IfOk result (λ _. outline_of exports.new self.new ≡ outlined order.now (map file_of files.now) number (outline_of exports.old self.old)) }
+        ensures outline { IfOk result (λ _. outline_of exports.new self.new ≡ outlined order.now (map file_of files.now.trees.now) number (outline_of exports.old self.old)) }
         ensures clear { IfOk result (λ _. self.new.sink.kept ≡ None) }
     {
         if !is_blank(exports.as_slice(), number) {
             return Ok(());
         }
-        let Some(unit) = unit_at(order, files, number) else {
+        let Some(unit) = unit_at(order, files, number)? else {
             return Ok(());
         };
-        let export = self.interface(exports.as_slice(), number, unit)?;
-        exports.replace(number, Some(export));
+        let export = self.interface(exports, number, unit)?;
+        exports.set(number, export)?;
         Ok(())
     }
 
     /// The interface part of a unit, whose names are gone behind it but for what it exports.
     fn interface(
         &mut self,
-        exports: &[Option<Export>],
+        exports: &Exports,
         number: usize,
         unit: &Unit,
     ) -> Result<Export, NoMemory>
@@ -98,7 +100,7 @@ impl Declarer {
         Ok(export)
     }
 
-    fn interface_part(&mut self, exports: &[Option<Export>], unit: &Unit) -> Result<(), NoMemory>
+    fn interface_part(&mut self, exports: &Exports, unit: &Unit) -> Result<(), NoMemory>
         ensures { IfOk result (λ _. Declares (interface_means exports.now (unit_of unit.now) (here_of self.old)) self.old self.new) }
     {
         self.uses(exports, unit.interface_uses.as_slice())?;
@@ -117,11 +119,11 @@ impl Declarer {
     }
 
     /// The units in their order, up to the first one that breaks a rule.
-    pub fn units(&mut self, files: &[Tree], exports: &[Option<Export>]) -> Result<(), NoMemory>
+    pub fn units(&mut self, files: &UnitFiles, exports: &Exports) -> Result<(), NoMemory>
         requires { self.old.sink.kept ≡ None }
-        ensures { (faults : ℕ → Faults) → AllTell exports.now faults → IfOk result (λ _. Declared (units_mean (map file_of files.now) exports.now faults 0 exports.now (here_of self.old)) self.old self.new) }
+        ensures { (faults : ℕ → Faults) → AllTell exports.now faults → IfOk result (λ _. Declared (units_mean (map file_of files.now.trees.now) exports.now faults 0 exports.now (here_of self.old)) self.old self.new) }
     {
-        for export in exports {
+        for export in exports.as_slice() {
             self.unit_if_any(files, exports, export)?;
             if self.sink.kept.is_some() {
                 return Ok(());
@@ -133,12 +135,12 @@ impl Declarer {
     /// A unit behind its interface part, if that is declared, with the first rule that it breaks.
     fn unit_if_any(
         &mut self,
-        files: &[Tree],
-        exports: &[Option<Export>],
+        files: &UnitFiles,
+        exports: &Exports,
         export: &Option<Export>,
     ) -> Result<(), NoMemory>
         requires { self.old.sink.kept ≡ None }
-        ensures { (f : Faults) → Tells export.now f → IfOk result (λ _. Declared (faulted f (done (unit_completes (map file_of files.now) exports.now export.now (here_of self.old)))) self.old self.new) }
+        ensures { (f : Faults) → Tells export.now f → IfOk result (λ _. Declared (faulted f (done (unit_completes (map file_of files.now.trees.now) exports.now export.now (here_of self.old)))) self.old self.new) }
     {
         match export {
             None => Ok(()),
@@ -151,16 +153,16 @@ impl Declarer {
 
     fn unit_completes(
         &mut self,
-        files: &[Tree],
-        exports: &[Option<Export>],
+        files: &UnitFiles,
+        exports: &Exports,
         export: &Export,
     ) -> Result<(), NoMemory>
-        ensures { IfOk result (λ _. Declares (unit_completes (map file_of files.now) exports.now (Some export.now) (here_of self.old)) self.old self.new) }
+        ensures { IfOk result (λ _. Declares (unit_completes (map file_of files.now.trees.now) exports.now (Some export.now) (here_of self.old)) self.old self.new) }
     {
         let start = self.core.globals.as_slice().len();
         self.unit = export.id;
         self.globals_counted(export.globals.as_slice())?;
-        let unit = unit_named(files, export.unit.as_slice());
+        let unit = files.unit_named(export.unit.as_slice())?;
         self.unit_means(exports, start, export, unit)
     }
 
@@ -189,7 +191,7 @@ impl Declarer {
 
     fn unit_means(
         &mut self,
-        exports: &[Option<Export>],
+        exports: &Exports,
         start: usize,
         export: &Export,
         unit: Option<&Unit>,
@@ -205,7 +207,7 @@ impl Declarer {
     /// The rest of a unit, whose names are gone behind it.
     fn unit(
         &mut self,
-        exports: &[Option<Export>],
+        exports: &Exports,
         start: usize,
         export: &Export,
         unit: &Unit,
@@ -221,7 +223,7 @@ impl Declarer {
     /// The implementation part of a unit, and the parts behind it.
     fn implementation(
         &mut self,
-        exports: &[Option<Export>],
+        exports: &Exports,
         start: usize,
         export: &Export,
         unit: &Unit,
@@ -237,12 +239,7 @@ impl Declarer {
     }
 
     /// Goes on in the scope of a unit, with what its two parts use in front of it.
-    fn reopen(
-        &mut self,
-        exports: &[Option<Export>],
-        export: &Export,
-        unit: &Unit,
-    ) -> Result<(), NoMemory>
+    fn reopen(&mut self, exports: &Exports, export: &Export, unit: &Unit) -> Result<(), NoMemory>
         ensures { IfOk result (λ _. Declares (reopened exports.now export.now (unit_of unit.now) (here_of self.old)) self.old self.new) }
     {
         self.uses(exports, unit.interface_uses.as_slice())?;
@@ -260,17 +257,6 @@ fn global_at(core: &Core, global: VariableId) -> Option<(TypeId, Place)>
         None => None,
         Some(row) => Some((row.of, row.name.position.place)),
     }
-}
-
-/// No interface part is declared.
-pub fn no_exports(alloc: Global, count: usize) -> Result<Table<Option<Export>>, NoMemory>
-    ensures { IfOk result (λ exports. exports ≡ replicate count None) }
-{
-    let mut exports = Table::new(alloc);
-    for _turn in 0..count {
-        exports.push(None)?;
-    }
-    Ok(exports)
 }
 
 /// There is a unit of this number whose interface part is not declared.

@@ -1,19 +1,19 @@
 //! What units export and use.
 ghost use Rattle.std.specs.Prelude.{◌≡◌, [], ◌∷◌, ◌++◌, IfOk, None, drop};
-ghost use Rattle.std.specs.Option.{option_copied};
 ghost use Rattle.std.specs.Str.{str_eq_ignore_ascii_case};
 ghost use Rattle.op_check_unit.specs.Steps.{Declares, here_of};
-ghost use Rattle.op_check_unit.specs.Uses.{exports_of, is_system, opened, put_back, put_apart, used, uses_mean, with_own};
+ghost use Rattle.op_check_unit.specs.Uses.{is_system, opened, put_back, put_apart, used, uses_mean, with_own};
 ghost use Rattle.op_types.specs.Names.{lower};
 ghost use Rattle.op_types.specs.declared.visible.Meaning.TheVariants.{Unit as UnitName};
 
 use crate::Declarer;
+use crate::exports::Exports;
 use op_base::{NoMemory, Refusal};
 use op_core::{Table, UnitId, VariableId};
 use op_judgement::LanguageRule;
 use op_scan::CompactText;
 use op_tree::Name;
-use op_types::{Meaning, Visible};
+use op_types::{Meaning, SharedNames, Visible};
 use std::mem;
 
 /// What the interface part of a unit declares.
@@ -23,7 +23,7 @@ pub struct Export {
     pub unit: CompactText,
     pub id: UnitId,
     /// The names of its scope, as those see it that use the unit: each alone, and behind the name of the unit.
-    pub names: Visible,
+    pub names: SharedNames,
     /// How many names its scope has.
     pub count: usize,
     /// Its global variables, which come into the table with those of the implementation part.
@@ -74,7 +74,7 @@ impl Declarer {
     }
 
     /// Enters what units export, the names of these first.
-    pub fn uses(&mut self, exports: &[Option<Export>], names: &[Name]) -> Result<(), NoMemory>
+    pub fn uses(&mut self, exports: &Exports, names: &[Name]) -> Result<(), NoMemory>
         ensures { IfOk result (λ _. Declares (uses_mean exports.now names.now (here_of self.old)) self.old self.new) }
     {
         for name in names {
@@ -84,13 +84,13 @@ impl Declarer {
     }
 
     /// Enters what a unit exports. The names of System are there already.
-    fn used(&mut self, exports: &[Option<Export>], name: &Name) -> Result<(), NoMemory>
+    fn used(&mut self, exports: &Exports, name: &Name) -> Result<(), NoMemory>
         ensures { IfOk result (λ _. Declares (used exports.now name.now (here_of self.old)) self.old self.new) }
     {
         if is_system(name) {
             return Ok(());
         }
-        match exports_of(exports, name) {
+        match exports.of(name)? {
             None => {
                 self.refuse(LanguageRule::MissingFile, name.position.place);
                 Ok(())
@@ -126,22 +126,8 @@ fn is_system(name: &Name) -> bool
 }
 
 /// Names are the same whatever the case of their letters.
-pub fn is_same_name(a: &[u8], b: &[u8]) -> bool
+fn is_same_name(a: &[u8], b: &[u8]) -> bool
     ensures { result ≡ str_eq_ignore_ascii_case a.now b.now }
 {
     a.eq_ignore_ascii_case(b)
-}
-
-/// What the unit of this name exports, where its interface part is declared.
-fn exports_of<'a>(exports: &'a [Option<Export>], name: &Name) -> Option<&'a Export>
-    ensures { option_copied result ≡ exports_of exports.now name.now }
-{
-    for slot in exports {
-        if let Some(export) = slot {
-            if is_same_name(export.unit.as_slice(), name.text.as_slice()) {
-                return Some(export);
-            }
-        }
-    }
-    None
 }

@@ -5,4 +5,5 @@ pub mod Extents
 pub mod Folding
 pub mod Index
 pub mod Members
+pub mod Stretches
 pub mod Wide

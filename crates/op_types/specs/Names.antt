@@ -1,11 +1,11 @@
 -- What names stand for.
 pub use Rattle.op_core.specs.FieldNames.{lower}
-use Rattle.std.specs.Prelude.{◌≡◌, ℕ, suc, List, [], ◌∷◌, Option, Some, None, if◌then◌else◌, slice_get, take, Vec}
+use Rattle.std.specs.Prelude.{◌≡◌, ◌++◌, ℕ, suc, List, [], ◌∷◌, Option, Some, None, if◌then◌else◌, map, slice_get, take, Vec}
 use Rattle.std.specs.Option.{option_flatten, option_map, option_or}
 use Rattle.std.specs.Str.{bytes_eq}
 use Rattle.std.specs.declared.alloc.Global.{Global}
 use Rattle.indexmap.specs.IndexMap.{IndexMap, get}
-use Rattle.op_types.specs.declared.visible.Declared.{Declared}
+use Rattle.op_types.specs.declared.names.Declared.{Declared}
 use Rattle.op_types.specs.declared.visible.Meaning.{Meaning}
 
 -- a declaration, its name in small letters
@@ -18,6 +18,21 @@ abbrev pub meaning_of : List Named → List ℕ → Option Meaning
 meaning_of [] name = None
 meaning_of (n ∷ ns) name = option_or (meaning_of ns name) (if bytes_eq n.name name then Some n.meaning else None)
 
+-- the number of the last of these declarations that is one of the name
+abbrev pub last_named : List Named → List ℕ → Option ℕ
+last_named [] name = None
+last_named (n ∷ ns) name = option_or (option_map suc (last_named ns name)) (if bytes_eq n.name name then Some 0 else None)
+
+-- the names of these lists, one list behind the other
+abbrev pub all_of : List (List Named) → List Named
+all_of [] = []
+all_of (ns ∷ more) = ns ++ all_of more
+
+-- the names that a scope takes over, if any
+abbrev pub taken_over : Option (List Named) → List Named
+taken_over None = []
+taken_over (Some names) = names
+
 -- ---- the index
 
 abbrev pub named : Declared → Named
@@ -25,8 +40,7 @@ named d = record { name = d.name.items; meaning = d.meaning }
 
 -- the number of the last of these declarations that is one of the name
 abbrev pub last_at : List Declared → List ℕ → Option ℕ
-last_at [] name = None
-last_at (d ∷ ds) name = option_or (option_map suc (last_at ds name)) (if bytes_eq d.name.items name then Some 0 else None)
+last_at ds name = last_named (map named ds) name
 
 -- the index has the last declaration of each name, each declaration the one before it of its name
 pub record Agrees {S : Type 0} (ds : List Declared) (newest : IndexMap (Vec ℕ Global) (Option ℕ) S) : Type 0 where

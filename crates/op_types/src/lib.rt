@@ -9,10 +9,12 @@ mod assign;
 mod constant;
 mod enter;
 mod evaluation;
+mod names;
 mod operator;
 mod set;
 mod setting;
 mod sort;
+mod stretch;
 mod value;
 mod visible;
 
@@ -23,6 +25,7 @@ pub use evaluation::{
     in_brackets, is_folded, joined, made, no_members, nodes, number_behind, only_value, plus,
     start_of, start_of_element,
 };
+pub use names::SharedNames;
 pub use operator::{application, operation, prefixed};
 pub use set::{common_set, set_behind, set_over, widest_set};
 pub use setting::Setting;

@@ -1,11 +1,12 @@
 //! The names that are visible at a place, and what they stand for.
-ghost use Rattle.std.specs.Prelude.{◌≡◌, ◌-◌, [], ◌∷◌, ◌++◌, IfOk, drop, is_some, length, map, take};
+ghost use Rattle.std.specs.Prelude.{◌≡◌, ◌<◌, [], ◌∷◌, ◌++◌, IfOk, drop, is_some, length, take};
 ghost use Rattle.std.specs.Option.{option_copied};
-ghost use Rattle.op_types.specs.Names.{lower, meaning_of, named};
+ghost use Rattle.op_types.specs.Names.{all_of, lower, meaning_of};
 
 use crate::Constant;
 use crate::evaluation::copy_of;
-use indexmap::IndexMap;
+use crate::names::{Names, SharedNames};
+use crate::stretch::Stretch;
 use op_base::NoMemory;
 use op_core::{Function, RoutineId, TypeId, UnitId, VariableId, lowered};
 use op_judgement::Feature;
@@ -82,33 +83,26 @@ impl Meaning {
     }
 }
 
-/// A name in small letters, and the next older declaration of it.
-#[derive(Drop)]
-struct Declared {
-    name: Vec<u8>,
-    meaning: Meaning,
-    hides: Option<usize>,
-}
-
 /// The visible names, in order of declaration, without regard to the case of letters. A name stands for what was declared last
-/// under it. A name behind a unit's name stands here as one name with a dot.
+/// under it. A name behind a unit's name stands here as one name with a dot. Names that a unit exports are in a table that all hold
+/// who use it, so a use takes the same time however many there are; a name is looked up in one table after the other, the last one first.
 #[derive(Drop)]
 pub struct Visible {
     alloc: Global,
-    declared: Vec<Declared>,
-    /// For each name the last declaration of it.
-    newest: IndexMap<Vec<u8>, Option<usize>>,
+    stretches: Vec<Stretch>,
+    /// How many names they have together.
+    count: usize,
 }
 
 impl Model for Visible {
-    ghost use Rattle.std.specs.Prelude.{List, map};
-    ghost use Rattle.op_types.specs.Names.{Agrees, Named, named};
+    ghost use Rattle.std.specs.Prelude.{◌≡◌, List, length};
+    ghost use Rattle.op_types.specs.Names.{Named, all_of};
 
     ghost Value = { List Named };
 
-    ghost view = { λ v. map named v.declared.items };
+    ghost view = { λ v. all_of v.stretches.items };
 
-    ghost invariant = { λ v. Agrees v.declared.items v.newest };
+    ghost invariant = { λ v. v.count ≡ length (all_of v.stretches.items) };
 }
 
 impl Visible {
@@ -117,8 +111,8 @@ impl Visible {
     {
         Visible {
             alloc,
-            declared: Vec::new(alloc),
-            newest: IndexMap::new(alloc),
+            stretches: Vec::new(alloc),
+            count: 0,
         }
     }
 
@@ -126,7 +120,7 @@ impl Visible {
     pub fn len(&self) -> usize
         ensures { result ≡ length self.now }
     {
-        self.declared.len()
+        self.count
     }
 
     /// Declares a name.
@@ -134,73 +128,52 @@ impl Visible {
         ensures { IfOk result (λ _. self.new ≡ self.old ++ record { name = lower name.now; meaning = meaning } ∷ []) }
     {
         let name = lowered(self.alloc, name)?;
-        self.enter_lowered(name, meaning)
-    }
-
-    /// Declares a name that is in small letters.
-    fn enter_lowered(&mut self, name: Vec<u8>, meaning: Meaning) -> Result<(), NoMemory>
-        ensures { IfOk result (λ _. self.new ≡ self.old ++ record { name = name.items; meaning = meaning } ∷ []) }
-    {
-        let key = Vec::from_slice(self.alloc, name.as_slice())?;
-        self.declared.reserve(1)?;
-        let at = self.declared.len();
-        let hides = self.newest.insert(key, Some(at))?.flatten();
-        match self.declared.push(Declared {
-            name,
-            meaning,
-            hides,
-        }) {
-            Ok(()) => Ok(()),
-            Err(_) => unreachable!(),
-        }
+        let count = self.count.checked_add(1).ok_or(NoMemory)?;
+        begin(self.alloc, &mut self.stretches)?;
+        let last = self.stretches.len() - 1;
+        self.stretches[last].enter(name, meaning)?;
+        self.count = count;
+        Ok(())
     }
 
     /// Declares these names once more.
-    pub fn enter_all(&mut self, others: &Visible) -> Result<(), NoMemory>
+    pub fn enter_all(&mut self, others: &SharedNames) -> Result<(), NoMemory>
         ensures { IfOk result (λ _. self.new ≡ self.old ++ others.now) }
     {
-        self.enter_copies(others.declared.as_slice())
+        let count = self.count.checked_add(others.len()).ok_or(NoMemory)?;
+        let stretch = Stretch::behind(self.alloc, Some(others.share()?));
+        self.stretches.push(stretch)?;
+        self.count = count;
+        Ok(())
     }
 
-    /// A copy of what was declared behind the first `count` names.
-    pub fn since(&self, count: usize) -> Result<Visible, NoMemory>
+    /// What was declared behind the first `count` names.
+    pub fn since(&self, count: usize) -> Result<SharedNames, NoMemory>
         ensures { IfOk result (λ v. v ≡ drop count self.now) }
     {
-        let mut copy = Visible::new(self.alloc);
-        let declared = self.declared.as_slice();
-        let (_, behind) = declared.split_at(declared.len().min(count));
-        copy.enter_copies(behind)?;
-        Ok(copy)
-    }
-
-    fn enter_copies(&mut self, declared: &[Declared]) -> Result<(), NoMemory>
-        ensures { IfOk result (λ _. self.new ≡ self.old ++ map named declared.now) }
-    {
-        for one in declared {
-            let name = Vec::from_slice(self.alloc, one.name.as_slice())?;
-            let meaning = one.meaning.copy(self.alloc)?;
-            self.enter_lowered(name, meaning)?;
+        let mut copy = Names::new(self.alloc);
+        let mut left = count;
+        for stretch in &self.stretches {
+            stretch.copy_since(left, &mut copy)?;
+            left = left.saturating_sub(stretch.len());
         }
-        Ok(())
+        SharedNames::of(copy)
     }
 
     /// Leaves a scope: all names but the first `count` are gone.
     pub fn leave(&mut self, count: usize)
         ensures { self.new ≡ take count self.old }
     {
-        while self.declared.len() > count {
-            self.leave_last();
-        }
-    }
-
-    fn leave_last(&mut self)
-        ensures { self.new ≡ take (length self.old - 1) self.old }
-    {
-        if let Some(last) = self.declared.pop() {
-            match self.newest.insert(last.name, last.hides) {
-                Ok(_) => {}
-                Err(_) => unreachable!(),
+        while !self.stretches.is_empty() {
+            let at = self.stretches.len() - 1;
+            let before = self.count - self.stretches[at].len();
+            if before <= count {
+                self.stretches[at].leave(count - before);
+                self.count = self.count.min(count);
+                return;
             }
+            self.stretches.truncate(at);
+            self.count = before;
         }
     }
 
@@ -209,11 +182,13 @@ impl Visible {
         ensures { IfOk result (λ m. option_copied m ≡ meaning_of self.now (lower name.now)) }
     {
         let key = lowered(self.alloc, name)?;
-        match self.newest.get(&key) {
-            Some(Some(at)) => Ok(Some(&self.declared[*at].meaning)),
-            Some(None) => Ok(None),
-            None => Ok(None),
+        for stretch in self.stretches.iter().rev() {
+            match stretch.look_up(&key) {
+                Some(meaning) => return Ok(Some(meaning)),
+                None => {}
+            }
         }
+        Ok(None)
     }
 
     /// Whether a name was declared behind the first `count` ones.
@@ -221,10 +196,28 @@ impl Visible {
         ensures { IfOk result (λ b. b ≡ is_some (meaning_of (drop count self.now) (lower name.now))) }
     {
         let key = lowered(self.alloc, name)?;
-        match self.newest.get(&key) {
-            Some(Some(at)) => Ok(count <= *at),
-            Some(None) => Ok(false),
-            None => Ok(false),
+        let mut before = self.count;
+        for stretch in self.stretches.iter().rev() {
+            if before <= count {
+                return Ok(false);
+            }
+            before -= stretch.len();
+            if stretch.is_declared_since(count.saturating_sub(before), &key) {
+                return Ok(true);
+            }
         }
+        Ok(false)
     }
+}
+
+/// There is a stretch in which names can be declared.
+fn begin(alloc: Global, stretches: &mut Vec<Stretch>) -> Result<(), NoMemory>
+    ensures same { all_of stretches.new.items ≡ all_of stretches.old.items }
+    ensures begun { IfOk result (λ _. 0 < length stretches.new.items) }
+{
+    if !stretches.is_empty() {
+        return Ok(());
+    }
+    stretches.push(Stretch::behind(alloc, None))?;
+    Ok(())
 }

@@ -1,5 +1,6 @@
 pub mod Entering
 pub mod Forms
+pub mod Gathering
 pub mod Loading
 pub mod Names
 pub mod OneText

@@ -1,5 +1,5 @@
 -- The names of units and of their files.
-use Rattle.std.specs.Prelude.{◌≡◌, ℕ, Bool, false, ◌||◌, List, [], ◌∷◌, ◌++◌, ◌⊎◌, codes, map, nat_eq}
+use Rattle.std.specs.Prelude.{◌≡◌, ℕ, Bool, true, false, ◌||◌, List, [], ◌∷◌, ◌++◌, ◌⊎◌, codes, map, nat_eq}
 use Rattle.std.specs.Char.{to_ascii_lowercase}
 use Rattle.std.specs.List.{list_any}
 use Rattle.std.specs.Str.{bytes_eq}
@@ -15,6 +15,10 @@ lower name = map to_ascii_lowercase name
 -- the name is one of these
 abbrev pub is_among : List ℕ → List (List ℕ) → Bool
 is_among name names = list_any (bytes_eq name) names
+
+-- each of the names is one of the others
+abbrev pub AreAmong : List (List ℕ) → List (List ℕ) → Type 0
+AreAmong names others = (name : List ℕ) → is_among name names ≡ true → is_among name others ≡ true
 
 -- ---- files
 
@@ -61,3 +65,21 @@ uses_of t = interface_uses t ++ implementation_uses t
 
 abbrev pub name_of : Use → List ℕ
 name_of u = u.name
+
+-- ---- interface parts
+
+-- one of the lists has the name
+abbrev pub is_listed : List ℕ → List (List (List ℕ)) → Bool
+is_listed name lists = list_any (is_among name) lists
+
+-- each name that a list has is one of the names
+abbrev pub AreGathered : List (List (List ℕ)) → List (List ℕ) → Type 0
+AreGathered lists names = (name : List ℕ) → is_listed name lists ≡ true → is_among name names ≡ true
+
+-- one of the uses has the name
+abbrev pub is_used : List ℕ → List Use → Bool
+is_used name uses = list_any (λ used. bytes_eq name used.name) uses
+
+-- no list has the name, and none of the uses has it
+abbrev pub Lack : List (List (List ℕ)) → List ℕ → List Use → Type 0
+Lack lists name uses = (is_listed name lists ≡ false) × (is_used name uses ≡ false)

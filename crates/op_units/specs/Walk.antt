@@ -250,7 +250,7 @@ RefusalHasText NoMemory = ⊤
 -- ---- the code's own
 
 abbrev pub walked_of : Walk → Walked
-walked_of w = record { trees = w.trees.items; names = w.names.items; units = w.units; interfaces = w.interfaces.items; order = w.order.items; size = w.size }
+walked_of w = record { trees = w.trees.items; names = w.names.items; units = w.units; interfaces = w.interfaces; order = w.order.items; size = w.size }
 
 -- what comes of a name in a uses list
 abbrev pub UseIs : Option (List NamedFile) → List ℕ → List ℕ → Use → Walked → Walked → ℕ → ℕ → Result (Option Frame) LoadError → Type 0

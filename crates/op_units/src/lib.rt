@@ -9,6 +9,7 @@ mod error;
 mod forest;
 mod form;
 mod frame;
+mod interfaces;
 mod loader;
 mod name_set;
 mod theorems;

@@ -2,7 +2,7 @@
 ghost use Rattle.std.specs.Prelude.{◌≡◌, ◌∷◌, ◌++◌, [], IfOk, if◌then◌else◌, length, not, option_map, position, slice_get};
 ghost use Rattle.std.specs.Option.{option_copied};
 ghost use Rattle.std.specs.Str.{bytes_eq};
-ghost use Rattle.op_units.specs.Names.{is_among};
+ghost use Rattle.op_units.specs.Names.{AreAmong, is_among};
 
 use indexmap::IndexSet;
 use op_base::NoMemory;
@@ -37,6 +37,7 @@ impl NameSet {
     /// Whether the name was not there. It is then the last one.
     pub fn add(&mut self, name: &[u8]) -> Result<bool, NoMemory>
         ensures added { IfOk result (λ added. added ≡ not (is_among name.now self.old)) }
+        ensures stay { AreAmong self.old self.new }
         ensures after { IfOk result (λ _. self.new ≡ (if is_among name.now self.old then self.old else self.old ++ name.now ∷ [])) }
     {
         let key = Vec::from_slice(self.alloc, name)?;

@@ -7,6 +7,7 @@ ghost use Rattle.op_units.specs.Reading.{Reads};
 ghost use Rattle.op_units.specs.Walk.{AreUses, FileBreaksAs, IsForest, UseIs, interface_of, misnamed, nothing_read, placed, room, start_of, unit_name, walked_of};
 
 use crate::frame::{Frame, frame_of};
+use crate::interfaces::Interfaces;
 use crate::loader::{refused, tree_of};
 use crate::name_set::NameSet;
 use crate::uses::{
@@ -68,7 +69,7 @@ pub struct Walk {
     /// The units among them, in small letters.
     units: NameSet,
     /// For each of these the names that it uses in its interface part, in small letters.
-    interfaces: Vec<Sequence<Text>>,
+    interfaces: Interfaces,
     /// The units that are placed.
     order: Vec<Text>,
     /// The bytes of all files.
@@ -98,7 +99,7 @@ impl Walk {
             trees: Vec::new(alloc),
             names: Vec::new(alloc),
             units: NameSet::new(alloc),
-            interfaces: Vec::new(alloc),
+            interfaces: Interfaces::new(alloc),
             order: Vec::new(alloc),
             size: 0,
         }
@@ -260,13 +261,13 @@ impl Walk {
         self.names.push(Text::copy_of(alloc, file)?)?;
         if let Some(unit) = unit {
             self.units.add(unit.as_slice())?;
-            self.interfaces
-                .push(Sequence::from(names_of(alloc, interface)?))?;
+            self.interfaces.push(alloc, interface)?;
         }
         Ok(())
     }
 
-    /// The number of the first of the uses in the interface part of a unit by which interface uses of the files before lead back to it.
+    /// The number of the first of the uses in the interface part of a unit by which interface uses of the files before lead back to it. None is
+    /// searched for where neither these files nor the unit itself use it in an interface part.
     fn closing(
         &self,
         alloc: Global,
@@ -275,6 +276,9 @@ impl Walk {
     ) -> Result<Option<usize>, NoMemory>
         ensures { IfOk result (ClosingIs (walked_of self.now) unit.now interface.now) }
     {
+        if self.interfaces.lack(unit, interface) {
+            return Ok(None);
+        }
         let mut seen = NameSet::new(alloc);
         for number in 0..interface.len() {
             self.reach(&mut seen, interface[number].name.as_slice())?;
@@ -287,7 +291,7 @@ impl Walk {
 
     /// Adds a name, and all to which interface uses lead from it.
     fn reach(&self, seen: &mut NameSet, start: &[u8]) -> Result<(), NoMemory>
-        ensures { IfOk result (λ _. Reached self.now.units self.now.interfaces.items seen.old start.now seen.new) }
+        ensures { IfOk result (λ _. Reached self.now.units self.now.interfaces seen.old start.now seen.new) }
     {
         let first = seen.len();
         seen.add(start)?;
@@ -305,11 +309,10 @@ impl Walk {
 
     /// What a unit that was read uses in its interface part.
     fn interface_of(&self, unit: &[u8]) -> Option<&[Text]>
-        ensures { option_map (λ names. names.now) result ≡ interface_of self.now.units self.now.interfaces.items unit.now }
+        ensures { option_map (λ names. names.now) result ≡ interface_of self.now.units self.now.interfaces unit.now }
     {
         let number = self.units.number_of(unit)?;
-        let names = self.interfaces.get(number)?;
-        Some(names.as_slice())
+        self.interfaces.get(number)
     }
 }
 
@@ -340,16 +343,6 @@ fn add_all(seen: &mut NameSet, names: &[Text]) -> Result<(), NoMemory>
         seen.add(name.as_slice())?;
     }
     Ok(())
-}
-
-fn names_of(alloc: Global, uses: &[Use]) -> Result<Vec<Text>, NoMemory>
-    ensures { IfOk result (λ names. names.items ≡ map name_of uses.now) }
-{
-    let mut names = Vec::new(alloc);
-    for used in uses {
-        names.push(Text::copy_of(alloc, used.name.as_slice())?)?;
-    }
-    Ok(names)
 }
 
 /// The name of a unit; of a program none.

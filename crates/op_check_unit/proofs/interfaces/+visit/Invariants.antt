@@ -9,5 +9,5 @@ decreases-visit l = l.depth
 -- what is left gives the whole
 abbrev pub invariant-loop-name : goal.invariant-loop-name
 invariant-loop-name l =
-    all_visited (visited l.less l.order (map file_of l.files)) l.order (drop l.name-index l.name-items) l.so_far.items
-    ≡ all_visited (visited l.less l.order (map file_of l.files)) l.order l.name-items l.fn.so_far.items
+    all_visited (visited l.less l.order (map file_of l.files.trees.now)) l.order (drop l.name-index l.name-items) l.so_far
+    ≡ all_visited (visited l.less l.order (map file_of l.files.trees.now)) l.order l.name-items l.fn.so_far

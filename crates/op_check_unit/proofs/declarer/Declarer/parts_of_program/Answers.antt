@@ -12,11 +12,11 @@ returns-then-is_some c = λ faults told.
     let old = c.args.self.now in
     let es = c.args.exports.now in
     let q = some_kept c.units.new.self.sink.kept (sym c.is_some.ensures ∙ c.if-is_some.true) in
-    stops (units_mean (map file_of c.args.files.now) es faults 0 es (here_of old)) (λ h. done (program_declared es (program_of c.args.program.now) (in_unit (length c.args.order.now) h))) old c.units.new.self q.0 c.requires q.1 (c.in_ok-units.ensures faults told)
+    stops (units_mean (map file_of c.args.files.now.trees.now) es faults 0 es (here_of old)) (λ h. done (program_declared es (program_of c.args.program.now) (in_unit (length c.args.order.now) h))) old c.units.new.self q.0 c.requires q.1 (c.in_ok-units.ensures faults told)
 
 pub returns : goal.returns
 returns c = λ faults told.
     let old = c.args.self.now in
     let es = c.args.exports.now in
-    program_joined es (program_of c.args.program.now) (length c.args.order.now) (units_mean (map file_of c.args.files.now) es faults 0 es (here_of old)) old c.units.new.self c.enter_unit.new.self c.program.new.self c.program.result c.requires
+    program_joined es (program_of c.args.program.now) (length c.args.order.now) (units_mean (map file_of c.args.files.now.trees.now) es faults 0 es (here_of old)) old c.units.new.self c.enter_unit.new.self c.program.new.self c.program.result c.requires
     (none_kept c.units.new.self.sink.kept (sym c.is_some.ensures ∙ c.if-is_some.false)) (c.in_ok-units.ensures faults told) c.in_ok-enter_unit.ensures.here c.in_ok-enter_unit.ensures.kept c.program.ensures

@@ -4,4 +4,4 @@ use Rattle.op_tree.specs.File.{file_of}
 use Rattle.op_check_unit.proofs.declarer.Declarer.units.Given as goal
 
 abbrev pub invariant-loop-export : goal.invariant-loop-export
-invariant-loop-export l = Reaches (map file_of l.files) l.exports l.export-index l.fn.self l.self
+invariant-loop-export l = Reaches (map file_of l.files.trees.now) l.exports l.export-index l.fn.self l.self

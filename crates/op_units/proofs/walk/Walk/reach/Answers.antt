@@ -4,15 +4,15 @@ use Rattle.op_units.proofs.walk.Walk.reach.Goals as goal
 use Rattle.op_units.proofs.walk.Walk.reach.Goals.{in-Some-names+in_ok-add_all, in_default}
 
 pub loop-number-init : goal.loop-number-init
-loop-number-init c = reaching_begins c.args.self.now.units c.args.self.now.interfaces.items c.args.seen.now c.args.start.now c.add.new.self c.len-first.result c.len-first.ensures c.in_ok-add.ensures.after
+loop-number-init c = reaching_begins c.args.self.now.units c.args.self.now.interfaces c.args.seen.now c.args.start.now c.add.new.self c.len-first.result c.len-first.ensures c.in_ok-add.ensures.after
 
 pub returns-in-None : goal.returns-in-None
-returns-in-None c = reached c.args.self.now.units c.args.self.now.interfaces.items c.args.seen.now c.args.start.now c.loop-number.seen c.loop-number.number c.loop-number.invariant (sym c.name_at.ensures ∙ ap (option_map (λ n. n.now)) c.in-None.is)
+returns-in-None c = reached c.args.self.now.units c.args.self.now.interfaces c.args.seen.now c.args.start.now c.loop-number.seen c.loop-number.number c.loop-number.invariant (sym c.name_at.ensures ∙ ap (option_map (λ n. n.now)) c.in-None.is)
 
 pub loop-number-preserved : goal.loop-number-preserved
 loop-number-preserved c =
     let units = c.args.self.now.units in
-    let interfaces = c.args.self.now.interfaces.items in
+    let interfaces = c.args.self.now.interfaces in
     let old = c.args.seen.now in
     let start = c.args.start.now in
     let seen = c.loop-number.seen in
