@@ -1,5 +1,5 @@
 -- The routines that copy memory copy it.
-use Rattle.std.proofs.Common.{◌≡◌, ℕ, pos, zero, suc, ◌+◌, ◌-◌, ◌*◌, ◌/◌, ◌%◌, ◌^◌, ◌<◌, ◌≤◌, ◌⊎◌, inl, inr, Bool, true, false, cond, not, nat_eq, List, [], ◌∷◌, drop, get_or, slice_index, refl, ap, ap₂, sym, subst, ◌∙◌, arith}
+use Rattle.std.proofs.Common.{◌≡◌, ℕ, ℤ, pos, zero, suc, ◌+◌, ◌-◌, ◌*◌, ◌/◌, ◌%◌, ◌^◌, ◌<◌, ◌≤◌, ◌⊎◌, inl, inr, Bool, true, false, cond, not, nat_eq, List, [], ◌∷◌, drop, get_or, slice_index, refl, ap, ap₂, sym, subst, ◌∙◌, arith}
 use Rattle.std.proofs.Math.Nat.{add-mod_right, mul-suc, mul-zero}
 use Rattle.std.proofs.lemmas.Bool.{and_from, cases_lt}
 use Rattle.std.proofs.lemmas.Bool.Decides.{nat_tests}
@@ -9,7 +9,8 @@ use Rattle.op_low.specs.State.{Placement, State, block_of, space, usable}
 use Rattle.op_low.specs.declared.code.Low.{Low}
 use Rattle.op_low.specs.declared.instruction.Call.{Call as Operands}
 use Rattle.op_low.specs.declared.instruction.Instruction.{Instruction}
-use Rattle.op_rt_text.specs.Copying.{begins, copies_unit, ends}
+use Rattle.op_low.specs.declared.instruction.Instruction.TheVariants.{AluImm, Branch, Jump, Load, Store}
+use Rattle.op_rt_text.specs.Copying.{begins, ends}
 use Rattle.op_rt_text.specs.Names.{block_id, register}
 use Rattle.op_rt_text.specs.Running.{Allowed, HasRoom, behind}
 use Rattle.op_rt_text.proofs.BytesLemmas.{all_usable}
@@ -113,6 +114,17 @@ pub record CopiedInside (low : Low) (p : Placement) (m : State) (r : ℕ) (opera
 -- some silent steps that leave memory, and then the code that copies
 pub then_moved : {low : Low} {p : Placement} {m : State} {r : ℕ} {operands : Operands} {rest : List Instruction} {registers next : ℕ → ℕ} {now later : List Instruction} {memory : ℕ → ℕ} {t f k steps most more : ℕ} → Walk low p (inside low p m r operands rest registers now memory m.output) (inside low p m r operands rest next later memory m.output) [] steps → CopiedInside low p m r operands rest next later memory t f k most → steps + most ≤ more → CopiedInside low p m r operands rest registers now memory t f k more
 then_moved first last enough = record { value = last.value; after = last.after; moved = last.moved; walk = walk_longer (walk_then first last.walk) enough }
+
+-- the loop of both routines, for a unit of so many bytes
+abbrev copies_unit : LoadOp → StoreOp → ℤ → List Instruction
+copies_unit load store size =
+    Load load (register 4) (register 1) (pos 0)
+    ∷ Store store (register 4) (register 0) (pos 0)
+    ∷ AluImm Addi (register 1) (register 1) size
+    ∷ AluImm Addi (register 0) (register 0) size
+    ∷ Branch Bne (register 0) (register 3) (block_id 1)
+    ∷ Jump (block_id 2)
+    ∷ []
 
 -- a routine that copies units of n bytes
 module _ (low : Low) (p : Placement) (r : ℕ) (load : LoadOp) (store : StoreOp) (n : ℕ) (some : 0 < n) (few : n ≤ 4) (load_size : load_size_of load ≡ n) (store_size : store_size_of store ≡ n) (unit_is : (memory : ℕ → ℕ) (a : ℕ) → ((x : ℕ) → a ≤ x → x < a + n → memory x < 2 ^ 8) → bytes_low_first 0 n (load_value load memory a) ≡ bytes_from memory a n) (loop_block : block_of low r 1 ≡ copies_unit load store (pos n)) (end_block : block_of low r 2 ≡ ends) where

@@ -11,9 +11,9 @@ use Rattle.op_low.specs.declared.code.Routine.{Routine}
 use Rattle.op_low.specs.declared.instruction.Call.{Call as Operands}
 use Rattle.op_low.specs.declared.instruction.Instruction.{Instruction}
 use Rattle.op_low.specs.declared.instruction.Instruction.TheVariants.{Return}
-use Rattle.op_rt_text.specs.Names.{block_id, copy_bytes_number, copy_words_number, register, take_number}
+use Rattle.op_rt_text.specs.Names.{block_id, call, copy_bytes_number, copy_words_number, register, take_number}
 use Rattle.op_rt_text.specs.Running.{Allowed, Copyable, HasRoom}
-use Rattle.op_rt_text.specs.Take.{begins, copies}
+use Rattle.op_rt_text.specs.Take.{begins}
 use Rattle.op_rt_text.proofs.Calls.{cleared, inside, walk_leave}
 use Rattle.op_rt_text.proofs.CopyCalls.{Copied, CopiedBelow, bytes_copied, call_copied, then_copied, words_called}
 use Rattle.op_rt_text.proofs.Programs.{program}
@@ -31,6 +31,10 @@ use Rattle.op_simulation.specs.System.{run, spent, trace}
 
 low_bits : (a : ℕ) → imm_value Andi a (word_from (pos 3)) ≡ a % 4
 low_bits a = and_mask a 2
+
+-- the copy by the routine of this number
+abbrev copies : ℕ → List Instruction
+copies r = call r (register 0 ∷ register 2 ∷ register 1 ∷ []) (register 3) ∷ Return (register 3) ∷ []
 
 module _ (others : List Routine) (entry : RoutineId) (named : Counts) (globals : List GlobalVariable) (p : Placement) (small_words : p.frame copy_words_number ≤ 64) (small_bytes : p.frame copy_bytes_number ≤ 64) (small : p.frame take_number ≤ 64) where
   abbrev low : Low

@@ -10,10 +10,11 @@ use Rattle.op_low.specs.declared.code.Low.{Low}
 use Rattle.op_low.specs.declared.code.Routine.{Routine}
 use Rattle.op_low.specs.declared.instruction.Call.{Call as Operands}
 use Rattle.op_low.specs.declared.instruction.Instruction.{Instruction}
+use Rattle.op_low.specs.declared.instruction.Instruction.TheVariants.{Address, Const, Return}
 use Rattle.op_meaning.specs.Texts.{padded, text_of_truth, width_of}
-use Rattle.op_rt_text.specs.Names.{block_id, false_text, register, true_text, write_blanks_number, write_bytes_number, write_truth_number}
+use Rattle.op_rt_text.specs.Names.{block_id, call, false_text, register, true_text, write_blanks_number, write_bytes_number, write_truth_number}
 use Rattle.op_rt_text.specs.Running.{HasTexts, StandsAt}
-use Rattle.op_rt_text.specs.Truth.{chooses, writes_literal}
+use Rattle.op_rt_text.specs.Truth.{chooses}
 use Rattle.op_rt_text.proofs.BytesRun.{stands_on}
 use Rattle.op_rt_text.proofs.Calls.{cleared, inside}
 use Rattle.op_rt_text.proofs.Programs.{Written, WrittenInside, call_written, program, then_written}
@@ -27,6 +28,15 @@ use Rattle.op_rv.specs.declared.objects.GlobalVariable.{GlobalVariable}
 use Rattle.op_rv.specs.declared.symbol.RoutineId.{RoutineId}
 use Rattle.op_rv.specs.declared.symbol.Symbol.{Symbol}
 use Rattle.op_simulation.specs.System.{run, spent, trace}
+
+-- the code that writes a literal of so many bytes
+abbrev writes_literal : Symbol → ℕ → List Instruction
+writes_literal text length =
+    Address (register 2) text
+    ∷ Const (register 3) length
+    ∷ call write_bytes_number (register 2 ∷ register 3 ∷ register 1 ∷ []) (register 3)
+    ∷ Return (register 3)
+    ∷ []
 
 zero_eq : (n : ℕ) → 0 < n → int_eq (pos n) (pos 0) ≡ false
 zero_eq n some =

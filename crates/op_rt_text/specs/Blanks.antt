@@ -1,47 +1,23 @@
 -- The routine that writes so many blanks, none where the count is 0 or less.
-use Rattle.std.specs.Prelude.{negsuc, List, [], ◌∷◌}
+use Rattle.std.specs.Prelude.{List, [], ◌∷◌}
 use Rattle.op_low.specs.declared.code.Routine.{Routine}
-use Rattle.op_low.specs.declared.ids.VirtualRegister.{VirtualRegister}
 use Rattle.op_low.specs.declared.instruction.Instruction.{Instruction}
-use Rattle.op_low.specs.declared.instruction.Instruction.TheVariants.{Address, AluImm, Branch, Const, Jump, Return, Write}
-use Rattle.op_low.specs.declared.instruction.Output.TheVariants.{Console}
-use Rattle.op_rt_text.specs.Names.{blanks, block, block_id, register}
-use Rattle.op_rv.specs.declared.instruction.BranchOp.TheVariants.{Bge, Bgeu}
-use Rattle.op_rv.specs.declared.instruction.ImmOp.TheVariants.{Addi}
-
--- how many are left
-abbrev count : VirtualRegister
-count = register 0
-
--- where the blanks stand
-abbrev address : VirtualRegister
-address = register 1
-
--- how many stand there
-abbrev piece : VirtualRegister
-piece = register 2
-
--- 0
-abbrev nothing : VirtualRegister
-nothing = register 3
+use Rattle.op_rt_text.specs.Names.{block}
+use Rattle.op_rt_text.specs.Parts.{code}
+use Rattle.op_rt_text.specs.declared.blanks.TheConstants.{BEGINS, ENDS, WRITES_PIECE, WRITES_REST}
 
 abbrev pub begins : List Instruction
-begins = Address address blanks ∷ Const piece 64 ∷ Branch Bge nothing count (block_id 3) ∷ Jump (block_id 1) ∷ []
+begins = code BEGINS
 
 -- as often as more than 64 are left
 abbrev pub writes_piece : List Instruction
-writes_piece =
-    Branch Bgeu piece count (block_id 2)
-    ∷ Write Console address piece
-    ∷ AluImm Addi count count (negsuc 63)
-    ∷ Jump (block_id 1)
-    ∷ []
+writes_piece = code WRITES_PIECE
 
 abbrev pub writes_rest : List Instruction
-writes_rest = Write Console address count ∷ Return nothing ∷ []
+writes_rest = code WRITES_REST
 
 abbrev pub ends : List Instruction
-ends = Return nothing ∷ []
+ends = code ENDS
 
 abbrev pub write_blanks : Routine
 write_blanks =

@@ -6,6 +6,7 @@ pub mod Copying
 pub mod Example
 pub mod Names
 pub mod Number
+pub mod Parts
 pub mod Running
 pub mod Runtime
 pub mod Take

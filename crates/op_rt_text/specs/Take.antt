@@ -1,45 +1,20 @@
 -- The routine that puts a value in place of its address: it takes the address of so many bytes from where they are to go, which is a
 -- multiple of 4, and copies them there.
-use Rattle.std.specs.Prelude.{ℕ, pos, List, [], ◌∷◌}
+use Rattle.std.specs.Prelude.{List, [], ◌∷◌}
 use Rattle.op_low.specs.declared.code.Routine.{Routine}
-use Rattle.op_low.specs.declared.ids.VirtualRegister.{VirtualRegister}
 use Rattle.op_low.specs.declared.instruction.Instruction.{Instruction}
-use Rattle.op_low.specs.declared.instruction.Instruction.TheVariants.{AluImm, Branch, Jump, Load, Return}
-use Rattle.op_rt_text.specs.Names.{block, block_id, call, copy_bytes_number, copy_words_number, register}
-use Rattle.op_rv.specs.declared.instruction.BranchOp.TheVariants.{Bne}
-use Rattle.op_rv.specs.declared.instruction.ImmOp.TheVariants.{Andi}
-use Rattle.op_rv.specs.declared.instruction.LoadOp.TheVariants.{Lw}
-
-abbrev to : VirtualRegister
-to = register 0
-
-abbrev size : VirtualRegister
-size = register 1
-
-abbrev from : VirtualRegister
-from = register 2
-
--- what is left when it is divided by 4, of the address and then of the size
-abbrev left : VirtualRegister
-left = register 3
-
--- 0
-abbrev nothing : VirtualRegister
-nothing = register 4
+use Rattle.op_rt_text.specs.Names.{block}
+use Rattle.op_rt_text.specs.Parts.{code}
+use Rattle.op_rt_text.specs.declared.taking.TheConstants.{BEGINS, COPIES_BYTES, COPIES_WORDS}
 
 abbrev pub begins : List Instruction
-begins =
-    Load Lw from to (pos 0)
-    ∷ AluImm Andi left from (pos 3)
-    ∷ Branch Bne left nothing (block_id 2)
-    ∷ AluImm Andi left size (pos 3)
-    ∷ Branch Bne left nothing (block_id 2)
-    ∷ Jump (block_id 1)
-    ∷ []
+begins = code BEGINS
 
--- by the routine of this number
-abbrev pub copies : ℕ → List Instruction
-copies routine = call routine (to ∷ from ∷ size ∷ []) left ∷ Return left ∷ []
+abbrev pub copies_words : List Instruction
+copies_words = code COPIES_WORDS
+
+abbrev pub copies_bytes : List Instruction
+copies_bytes = code COPIES_BYTES
 
 abbrev pub take : Routine
 take =
@@ -47,5 +22,5 @@ take =
       parameters = 2;
       registers = 5;
       locals = 0;
-      blocks = block begins ∷ block (copies copy_words_number) ∷ block (copies copy_bytes_number) ∷ [];
+      blocks = block begins ∷ block copies_words ∷ block copies_bytes ∷ [];
     }

@@ -1,11 +1,11 @@
 //! Blanks.
-ghost use Rattle.op_rt_text.specs.Blanks.{begins, ends, write_blanks, writes_piece, writes_rest};
+ghost use Rattle.op_rt_text.specs.Blanks.{write_blanks};
 ghost use Rattle.std.specs.Prelude.{◌≡◌, IfOk};
 
 use crate::BLANKS;
-use crate::parts::{block, routine};
+use crate::parts::{Fixed, block, routine};
 use op_base::NoMemory;
-use op_low::{Instruction, Output, Routine, VirtualRegister};
+use op_low::{Output, Routine, VirtualRegister};
 use op_rv::{BlockId, BranchOp, ImmOp, Symbol};
 use std::alloc::Global;
 
@@ -27,81 +27,36 @@ const REST: BlockId = BlockId(2);
 
 const END: BlockId = BlockId(3);
 
-fn begins(alloc: Global) -> Result<Vec<Instruction>, NoMemory>
-    ensures { IfOk result (λ code. code.items ≡ begins) }
-{
-    Ok(vec![in alloc;
-        Instruction::Address {
-            to: ADDRESS,
-            symbol: Symbol::Literal(BLANKS),
-        },
-        Instruction::Const {
-            to: PIECE,
-            value: 64,
-        },
-        Instruction::Branch {
-            op: BranchOp::Bge,
-            left: NOTHING,
-            right: COUNT,
-            block: END,
-        },
-        Instruction::Jump { block: PIECES },
-    ]?)
-}
+pub const BEGINS: [Fixed; 4] = [
+    Fixed::Address(ADDRESS, Symbol::Literal(BLANKS)),
+    Fixed::Const(PIECE, 64),
+    Fixed::Branch(BranchOp::Bge, NOTHING, COUNT, END),
+    Fixed::Jump(PIECES),
+];
 
 /// As often as more than a piece is left.
-fn writes_piece(alloc: Global) -> Result<Vec<Instruction>, NoMemory>
-    ensures { IfOk result (λ code. code.items ≡ writes_piece) }
-{
-    Ok(vec![in alloc;
-        Instruction::Branch {
-            op: BranchOp::Bgeu,
-            left: PIECE,
-            right: COUNT,
-            block: REST,
-        },
-        Instruction::Write {
-            output: Output::Console,
-            buffer: ADDRESS,
-            length: PIECE,
-        },
-        Instruction::AluImm {
-            op: ImmOp::Addi,
-            to: COUNT,
-            left: COUNT,
-            imm: -64,
-        },
-        Instruction::Jump { block: PIECES },
-    ]?)
-}
+pub const WRITES_PIECE: [Fixed; 4] = [
+    Fixed::Branch(BranchOp::Bgeu, PIECE, COUNT, REST),
+    Fixed::Write(Output::Console, ADDRESS, PIECE),
+    Fixed::AluImm(ImmOp::Addi, COUNT, COUNT, -64),
+    Fixed::Jump(PIECES),
+];
 
-fn writes_rest(alloc: Global) -> Result<Vec<Instruction>, NoMemory>
-    ensures { IfOk result (λ code. code.items ≡ writes_rest) }
-{
-    Ok(vec![in alloc;
-        Instruction::Write {
-            output: Output::Console,
-            buffer: ADDRESS,
-            length: COUNT,
-        },
-        Instruction::Return { value: NOTHING },
-    ]?)
-}
+pub const WRITES_REST: [Fixed; 2] = [
+    Fixed::Write(Output::Console, ADDRESS, COUNT),
+    Fixed::Return(NOTHING),
+];
 
-fn ends(alloc: Global) -> Result<Vec<Instruction>, NoMemory>
-    ensures { IfOk result (λ code. code.items ≡ ends) }
-{
-    Ok(vec![in alloc; Instruction::Return { value: NOTHING }]?)
-}
+pub const ENDS: [Fixed; 1] = [Fixed::Return(NOTHING)];
 
 /// The routine that writes so many blanks.
 pub fn write_blanks(alloc: Global) -> Result<Routine, NoMemory>
     ensures { IfOk result (λ routine. routine ≡ write_blanks) }
 {
     let mut blocks = Vec::new(alloc);
-    blocks.push(block(begins(alloc)?))?;
-    blocks.push(block(writes_piece(alloc)?))?;
-    blocks.push(block(writes_rest(alloc)?))?;
-    blocks.push(block(ends(alloc)?))?;
+    blocks.push(block(alloc, &BEGINS)?)?;
+    blocks.push(block(alloc, &WRITES_PIECE)?)?;
+    blocks.push(block(alloc, &WRITES_REST)?)?;
+    blocks.push(block(alloc, &ENDS)?)?;
     Ok(routine(1, 4, 0, blocks))
 }

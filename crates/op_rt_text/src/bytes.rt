@@ -1,11 +1,11 @@
 //! Bytes of memory, padded.
-ghost use Rattle.op_rt_text.specs.Bytes.{begins, write_bytes, writes_text};
+ghost use Rattle.op_rt_text.specs.Bytes.{write_bytes};
 ghost use Rattle.std.specs.Prelude.{◌≡◌, IfOk};
 
 use crate::WRITE_BLANKS;
-use crate::parts::{block, call, routine};
+use crate::parts::{Arguments, Fixed, block, routine};
 use op_base::NoMemory;
-use op_low::{Instruction, Output, Routine, VirtualRegister};
+use op_low::{Output, Routine, VirtualRegister};
 use op_rv::{AluOp, BlockId, BranchOp};
 use std::alloc::Global;
 
@@ -20,47 +20,24 @@ const BLANKS: VirtualRegister = VirtualRegister(3);
 
 const TEXT: BlockId = BlockId(1);
 
-fn begins(alloc: Global) -> Result<Vec<Instruction>, NoMemory>
-    ensures { IfOk result (λ code. code.items ≡ begins) }
-{
-    let arguments = vec![in alloc; BLANKS]?;
-    Ok(vec![in alloc;
-        Instruction::Branch {
-            op: BranchOp::Bge,
-            left: LENGTH,
-            right: WIDTH,
-            block: TEXT,
-        },
-        Instruction::Alu {
-            op: AluOp::Sub,
-            to: BLANKS,
-            left: WIDTH,
-            right: LENGTH,
-        },
-        call(WRITE_BLANKS, arguments, BLANKS),
-        Instruction::Jump { block: TEXT },
-    ]?)
-}
+pub const BEGINS: [Fixed; 4] = [
+    Fixed::Branch(BranchOp::Bge, LENGTH, WIDTH, TEXT),
+    Fixed::Alu(AluOp::Sub, BLANKS, WIDTH, LENGTH),
+    Fixed::Call(WRITE_BLANKS, Arguments::One(BLANKS), BLANKS),
+    Fixed::Jump(TEXT),
+];
 
-fn writes_text(alloc: Global) -> Result<Vec<Instruction>, NoMemory>
-    ensures { IfOk result (λ code. code.items ≡ writes_text) }
-{
-    Ok(vec![in alloc;
-        Instruction::Write {
-            output: Output::Console,
-            buffer: ADDRESS,
-            length: LENGTH,
-        },
-        Instruction::Return { value: LENGTH },
-    ]?)
-}
+pub const WRITES_TEXT: [Fixed; 2] = [
+    Fixed::Write(Output::Console, ADDRESS, LENGTH),
+    Fixed::Return(LENGTH),
+];
 
 /// The routine that writes bytes with blanks in front.
 pub fn write_bytes(alloc: Global) -> Result<Routine, NoMemory>
     ensures { IfOk result (λ routine. routine ≡ write_bytes) }
 {
     let mut blocks = Vec::new(alloc);
-    blocks.push(block(begins(alloc)?))?;
-    blocks.push(block(writes_text(alloc)?))?;
+    blocks.push(block(alloc, &BEGINS)?)?;
+    blocks.push(block(alloc, &WRITES_TEXT)?)?;
     Ok(routine(3, 4, 0, blocks))
 }

@@ -1,11 +1,11 @@
 //! A character.
-ghost use Rattle.op_rt_text.specs.Char.{write_char, writes_byte};
+ghost use Rattle.op_rt_text.specs.Char.{write_char};
 ghost use Rattle.std.specs.Prelude.{◌≡◌, IfOk};
 
 use crate::WRITE_BYTES;
-use crate::parts::{block, call, routine};
+use crate::parts::{Arguments, Fixed, block, routine};
 use op_base::NoMemory;
-use op_low::{Instruction, Routine, VirtualRegister};
+use op_low::{Routine, VirtualRegister};
 use op_rv::StoreOp;
 use std::alloc::Global;
 
@@ -18,35 +18,23 @@ const ADDRESS: VirtualRegister = VirtualRegister(2);
 
 const LENGTH: VirtualRegister = VirtualRegister(3);
 
-fn writes_byte(alloc: Global) -> Result<Vec<Instruction>, NoMemory>
-    ensures { IfOk result (λ code. code.items ≡ writes_byte) }
-{
-    let arguments = vec![in alloc; ADDRESS, LENGTH, WIDTH]?;
-    Ok(vec![in alloc;
-        Instruction::Local {
-            to: ADDRESS,
-            offset: 0,
-        },
-        Instruction::Store {
-            op: StoreOp::Sb,
-            value: VALUE,
-            base: ADDRESS,
-            offset: 0,
-        },
-        Instruction::Const {
-            to: LENGTH,
-            value: 1,
-        },
-        call(WRITE_BYTES, arguments, LENGTH),
-        Instruction::Return { value: LENGTH },
-    ]?)
-}
+pub const WRITES_BYTE: [Fixed; 5] = [
+    Fixed::Local(ADDRESS, 0),
+    Fixed::Store(StoreOp::Sb, VALUE, ADDRESS, 0),
+    Fixed::Const(LENGTH, 1),
+    Fixed::Call(
+        WRITE_BYTES,
+        Arguments::Three(ADDRESS, LENGTH, WIDTH),
+        LENGTH,
+    ),
+    Fixed::Return(LENGTH),
+];
 
 /// The routine that writes a character.
 pub fn write_char(alloc: Global) -> Result<Routine, NoMemory>
     ensures { IfOk result (λ routine. routine ≡ write_char) }
 {
     let mut blocks = Vec::new(alloc);
-    blocks.push(block(writes_byte(alloc)?))?;
+    blocks.push(block(alloc, &WRITES_BYTE)?)?;
     Ok(routine(2, 4, 4, blocks))
 }

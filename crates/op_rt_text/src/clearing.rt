@@ -1,10 +1,10 @@
 //! Zeros in memory.
-ghost use Rattle.op_rt_text.specs.Clear.{begins, clear, clears_word};
+ghost use Rattle.op_rt_text.specs.Clear.{clear};
 ghost use Rattle.std.specs.Prelude.{◌≡◌, IfOk};
 
-use crate::parts::{block, routine};
+use crate::parts::{Fixed, block, routine};
 use op_base::NoMemory;
-use op_low::{Instruction, Routine, VirtualRegister};
+use op_low::{Routine, VirtualRegister};
 use op_rv::{AluOp, BlockId, BranchOp, ImmOp, StoreOp};
 use std::alloc::Global;
 
@@ -24,54 +24,24 @@ const WORDS: BlockId = BlockId(1);
 
 const DONE: BlockId = BlockId(2);
 
-fn begins(alloc: Global) -> Result<Vec<Instruction>, NoMemory>
-    ensures { IfOk result (λ code. code.items ≡ begins) }
-{
-    Ok(vec![in alloc;
-        Instruction::Alu {
-            op: AluOp::Add,
-            to: END,
-            left: TO,
-            right: COUNT,
-        },
-        Instruction::Jump { block: WORDS },
-    ]?)
-}
+pub const BEGINS: [Fixed; 2] = [Fixed::Alu(AluOp::Add, END, TO, COUNT), Fixed::Jump(WORDS)];
 
-fn clears_word(alloc: Global) -> Result<Vec<Instruction>, NoMemory>
-    ensures { IfOk result (λ code. code.items ≡ clears_word) }
-{
-    Ok(vec![in alloc;
-        Instruction::Store {
-            op: StoreOp::Sw,
-            value: NOTHING,
-            base: TO,
-            offset: 0,
-        },
-        Instruction::AluImm {
-            op: ImmOp::Addi,
-            to: TO,
-            left: TO,
-            imm: 4,
-        },
-        Instruction::Branch {
-            op: BranchOp::Bne,
-            left: TO,
-            right: END,
-            block: WORDS,
-        },
-        Instruction::Jump { block: DONE },
-    ]?)
-}
+pub const CLEARS_WORD: [Fixed; 4] = [
+    Fixed::Store(StoreOp::Sw, NOTHING, TO, 0),
+    Fixed::AluImm(ImmOp::Addi, TO, TO, 4),
+    Fixed::Branch(BranchOp::Bne, TO, END, WORDS),
+    Fixed::Jump(DONE),
+];
+
+pub const ENDS: [Fixed; 1] = [Fixed::Return(NOTHING)];
 
 /// The routine that puts zeros in memory.
 pub fn clear(alloc: Global) -> Result<Routine, NoMemory>
     ensures { IfOk result (λ routine. routine ≡ clear) }
 {
-    let ends = vec![in alloc; Instruction::Return { value: NOTHING }]?;
     let mut blocks = Vec::new(alloc);
-    blocks.push(block(begins(alloc)?))?;
-    blocks.push(block(clears_word(alloc)?))?;
-    blocks.push(block(ends))?;
+    blocks.push(block(alloc, &BEGINS)?)?;
+    blocks.push(block(alloc, &CLEARS_WORD)?)?;
+    blocks.push(block(alloc, &ENDS)?)?;
     Ok(routine(2, 4, 0, blocks))
 }

@@ -1,12 +1,12 @@
 //! A value in place of its address.
-ghost use Rattle.op_rt_text.specs.Take.{begins, copies, take};
+ghost use Rattle.op_rt_text.specs.Take.{take};
 ghost use Rattle.std.specs.Prelude.{◌≡◌, IfOk};
 
-use crate::parts::{block, call, routine};
+use crate::parts::{Arguments, Fixed, block, routine};
 use crate::{COPY_BYTES, COPY_WORDS};
 use op_base::NoMemory;
-use op_low::{Instruction, Routine, VirtualRegister};
-use op_rv::{BlockId, BranchOp, ImmOp, LoadOp, RoutineId};
+use op_low::{Routine, VirtualRegister};
+use op_rv::{BlockId, BranchOp, ImmOp, LoadOp};
 use std::alloc::Global;
 
 const TO: VirtualRegister = VirtualRegister(0);
@@ -26,61 +26,32 @@ const BY_WORDS: BlockId = BlockId(1);
 const BY_BYTES: BlockId = BlockId(2);
 
 /// Copies by words where address and size are multiples of 4.
-fn begins(alloc: Global) -> Result<Vec<Instruction>, NoMemory>
-    ensures { IfOk result (λ code. code.items ≡ begins) }
-{
-    Ok(vec![in alloc;
-        Instruction::Load {
-            op: LoadOp::Lw,
-            to: FROM,
-            base: TO,
-            offset: 0,
-        },
-        Instruction::AluImm {
-            op: ImmOp::Andi,
-            to: LEFT,
-            left: FROM,
-            imm: 3,
-        },
-        Instruction::Branch {
-            op: BranchOp::Bne,
-            left: LEFT,
-            right: NOTHING,
-            block: BY_BYTES,
-        },
-        Instruction::AluImm {
-            op: ImmOp::Andi,
-            to: LEFT,
-            left: SIZE,
-            imm: 3,
-        },
-        Instruction::Branch {
-            op: BranchOp::Bne,
-            left: LEFT,
-            right: NOTHING,
-            block: BY_BYTES,
-        },
-        Instruction::Jump { block: BY_WORDS },
-    ]?)
-}
+pub const BEGINS: [Fixed; 6] = [
+    Fixed::Load(LoadOp::Lw, FROM, TO, 0),
+    Fixed::AluImm(ImmOp::Andi, LEFT, FROM, 3),
+    Fixed::Branch(BranchOp::Bne, LEFT, NOTHING, BY_BYTES),
+    Fixed::AluImm(ImmOp::Andi, LEFT, SIZE, 3),
+    Fixed::Branch(BranchOp::Bne, LEFT, NOTHING, BY_BYTES),
+    Fixed::Jump(BY_WORDS),
+];
 
-fn copies(alloc: Global, copy: RoutineId) -> Result<Vec<Instruction>, NoMemory>
-    ensures { IfOk result (λ code. code.items ≡ copies copy.0) }
-{
-    let arguments = vec![in alloc; TO, FROM, SIZE]?;
-    Ok(vec![in alloc;
-        call(copy, arguments, LEFT),
-        Instruction::Return { value: LEFT },
-    ]?)
-}
+pub const COPIES_WORDS: [Fixed; 2] = [
+    Fixed::Call(COPY_WORDS, Arguments::Three(TO, FROM, SIZE), LEFT),
+    Fixed::Return(LEFT),
+];
+
+pub const COPIES_BYTES: [Fixed; 2] = [
+    Fixed::Call(COPY_BYTES, Arguments::Three(TO, FROM, SIZE), LEFT),
+    Fixed::Return(LEFT),
+];
 
 /// The routine that puts a value in place of its address.
 pub fn take(alloc: Global) -> Result<Routine, NoMemory>
     ensures { IfOk result (λ routine. routine ≡ take) }
 {
     let mut blocks = Vec::new(alloc);
-    blocks.push(block(begins(alloc)?))?;
-    blocks.push(block(copies(alloc, COPY_WORDS)?))?;
-    blocks.push(block(copies(alloc, COPY_BYTES)?))?;
+    blocks.push(block(alloc, &BEGINS)?)?;
+    blocks.push(block(alloc, &COPIES_WORDS)?)?;
+    blocks.push(block(alloc, &COPIES_BYTES)?)?;
     Ok(routine(2, 5, 0, blocks))
 }
