@@ -3,7 +3,7 @@ ghost use Rattle.op_rt_text.specs.Blanks.{write_blanks};
 ghost use Rattle.std.specs.Prelude.{◌≡◌, IfOk};
 
 use crate::BLANKS;
-use crate::parts::{Fixed, block, routine};
+use crate::parts::{Fixed, routine};
 use op_base::NoMemory;
 use op_low::{Output, Routine, VirtualRegister};
 use op_rv::{BlockId, BranchOp, ImmOp, Symbol};
@@ -53,10 +53,11 @@ pub const ENDS: [Fixed; 1] = [Fixed::Return(NOTHING)];
 pub fn write_blanks(alloc: Global) -> Result<Routine, NoMemory>
     ensures { IfOk result (λ routine. routine ≡ write_blanks) }
 {
-    let mut blocks = Vec::new(alloc);
-    blocks.push(block(alloc, &BEGINS)?)?;
-    blocks.push(block(alloc, &WRITES_PIECE)?)?;
-    blocks.push(block(alloc, &WRITES_REST)?)?;
-    blocks.push(block(alloc, &ENDS)?)?;
-    Ok(routine(1, 4, 0, blocks))
+    routine(
+        alloc,
+        1,
+        4,
+        0,
+        &[&BEGINS, &WRITES_PIECE, &WRITES_REST, &ENDS],
+    )
 }

@@ -3,7 +3,7 @@ ghost use Rattle.op_rt_text.specs.Bytes.{write_bytes};
 ghost use Rattle.std.specs.Prelude.{◌≡◌, IfOk};
 
 use crate::WRITE_BLANKS;
-use crate::parts::{Arguments, Fixed, block, routine};
+use crate::parts::{Arguments, Fixed, routine};
 use op_base::NoMemory;
 use op_low::{Output, Routine, VirtualRegister};
 use op_rv::{AluOp, BlockId, BranchOp};
@@ -36,8 +36,5 @@ pub const WRITES_TEXT: [Fixed; 2] = [
 pub fn write_bytes(alloc: Global) -> Result<Routine, NoMemory>
     ensures { IfOk result (λ routine. routine ≡ write_bytes) }
 {
-    let mut blocks = Vec::new(alloc);
-    blocks.push(block(alloc, &BEGINS)?)?;
-    blocks.push(block(alloc, &WRITES_TEXT)?)?;
-    Ok(routine(3, 4, 0, blocks))
+    routine(alloc, 3, 4, 0, &[&BEGINS, &WRITES_TEXT])
 }

@@ -3,7 +3,7 @@ ghost use Rattle.op_rt_text.specs.Char.{write_char};
 ghost use Rattle.std.specs.Prelude.{◌≡◌, IfOk};
 
 use crate::WRITE_BYTES;
-use crate::parts::{Arguments, Fixed, block, routine};
+use crate::parts::{Arguments, Fixed, routine};
 use op_base::NoMemory;
 use op_low::{Routine, VirtualRegister};
 use op_rv::StoreOp;
@@ -34,7 +34,5 @@ pub const WRITES_BYTE: [Fixed; 5] = [
 pub fn write_char(alloc: Global) -> Result<Routine, NoMemory>
     ensures { IfOk result (λ routine. routine ≡ write_char) }
 {
-    let mut blocks = Vec::new(alloc);
-    blocks.push(block(alloc, &WRITES_BYTE)?)?;
-    Ok(routine(2, 4, 4, blocks))
+    routine(alloc, 2, 4, 4, &[&WRITES_BYTE])
 }

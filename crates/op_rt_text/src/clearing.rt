@@ -2,7 +2,7 @@
 ghost use Rattle.op_rt_text.specs.Clear.{clear};
 ghost use Rattle.std.specs.Prelude.{◌≡◌, IfOk};
 
-use crate::parts::{Fixed, block, routine};
+use crate::parts::{Fixed, routine};
 use op_base::NoMemory;
 use op_low::{Routine, VirtualRegister};
 use op_rv::{AluOp, BlockId, BranchOp, ImmOp, StoreOp};
@@ -39,9 +39,5 @@ pub const ENDS: [Fixed; 1] = [Fixed::Return(NOTHING)];
 pub fn clear(alloc: Global) -> Result<Routine, NoMemory>
     ensures { IfOk result (λ routine. routine ≡ clear) }
 {
-    let mut blocks = Vec::new(alloc);
-    blocks.push(block(alloc, &BEGINS)?)?;
-    blocks.push(block(alloc, &CLEARS_WORD)?)?;
-    blocks.push(block(alloc, &ENDS)?)?;
-    Ok(routine(2, 4, 0, blocks))
+    routine(alloc, 2, 4, 0, &[&BEGINS, &CLEARS_WORD, &ENDS])
 }

@@ -2,7 +2,7 @@
 ghost use Rattle.op_rt_text.specs.Copying.{copy_bytes, copy_words};
 ghost use Rattle.std.specs.Prelude.{◌≡◌, IfOk};
 
-use crate::parts::{Fixed, block, routine};
+use crate::parts::{Fixed, routine};
 use op_base::NoMemory;
 use op_low::{Routine, VirtualRegister};
 use op_rv::{AluOp, BlockId, BranchOp, ImmOp, LoadOp, StoreOp};
@@ -58,20 +58,12 @@ pub const ENDS: [Fixed; 1] = [Fixed::Return(UNIT)];
 pub fn copy_words(alloc: Global) -> Result<Routine, NoMemory>
     ensures { IfOk result (λ routine. routine ≡ copy_words) }
 {
-    let mut blocks = Vec::new(alloc);
-    blocks.push(block(alloc, &BEGINS)?)?;
-    blocks.push(block(alloc, &COPIES_WORD)?)?;
-    blocks.push(block(alloc, &ENDS)?)?;
-    Ok(routine(3, 5, 0, blocks))
+    routine(alloc, 3, 5, 0, &[&BEGINS, &COPIES_WORD, &ENDS])
 }
 
 /// The routine that copies by bytes.
 pub fn copy_bytes(alloc: Global) -> Result<Routine, NoMemory>
     ensures { IfOk result (λ routine. routine ≡ copy_bytes) }
 {
-    let mut blocks = Vec::new(alloc);
-    blocks.push(block(alloc, &BEGINS)?)?;
-    blocks.push(block(alloc, &COPIES_BYTE)?)?;
-    blocks.push(block(alloc, &ENDS)?)?;
-    Ok(routine(3, 5, 0, blocks))
+    routine(alloc, 3, 5, 0, &[&BEGINS, &COPIES_BYTE, &ENDS])
 }

@@ -1,8 +1,8 @@
 //! The run-time routines in low code, which every compiled program has as its first routines.
 //!
 //! They copy bytes of memory or make zeros of them, and write numbers, truths, characters and texts to the output, with blanks in front up to a width. `routines`
-//! gives their code, exactly that of `specs/Runtime.antt`. Where it names literals, they are the first three of the program: 64 blanks,
-//! `TRUE` and `FALSE`.
+//! gives their code, exactly that of `specs/Runtime.antt`, which is read from the constants that stand here. Where it names literals, they are
+//! the first three of the program: 64 blanks, `TRUE` and `FALSE`.
 #![tactic(auto)]
 
 mod blanks;

@@ -3,7 +3,7 @@ ghost use Rattle.op_rt_text.specs.Number.{write_number};
 ghost use Rattle.std.specs.Prelude.{◌≡◌, IfOk};
 
 use crate::WRITE_BYTES;
-use crate::parts::{Arguments, Fixed, block, routine};
+use crate::parts::{Arguments, Fixed, routine};
 use op_base::NoMemory;
 use op_low::{Routine, VirtualRegister};
 use op_rv::{AluOp, BlockId, BranchOp, ImmOp, StoreOp};
@@ -76,10 +76,11 @@ pub const WRITES_TEXT: [Fixed; 3] = [
 pub fn write_number(alloc: Global) -> Result<Routine, NoMemory>
     ensures { IfOk result (λ routine. routine ≡ write_number) }
 {
-    let mut blocks = Vec::new(alloc);
-    blocks.push(block(alloc, &BEGINS)?)?;
-    blocks.push(block(alloc, &PUTS_DIGIT)?)?;
-    blocks.push(block(alloc, &PUTS_SIGN)?)?;
-    blocks.push(block(alloc, &WRITES_TEXT)?)?;
-    Ok(routine(2, 8, 12, blocks))
+    routine(
+        alloc,
+        2,
+        8,
+        12,
+        &[&BEGINS, &PUTS_DIGIT, &PUTS_SIGN, &WRITES_TEXT],
+    )
 }

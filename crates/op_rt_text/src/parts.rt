@@ -1,9 +1,8 @@
 //! Fixed code, which stands once, in constants, and the parts of the routines that are made of it.
 ghost use Rattle.op_rt_text.specs.Names.{block};
 ghost use Rattle.op_rt_text.specs.Parts.{code, instruction_of, listed};
-ghost use Rattle.op_low.specs.declared.code.Routine.{Routine};
 ghost use Rattle.op_low.specs.declared.instruction.Instruction.{Instruction};
-ghost use Rattle.std.specs.Prelude.{◌≡◌, IfOk, None};
+ghost use Rattle.std.specs.Prelude.{◌≡◌, IfOk, None, map};
 
 use op_base::{NoMemory, Sequence};
 use op_low::{Block, Call, Instruction, Output, Routine, VirtualRegister};
@@ -108,7 +107,7 @@ fn instruction_of(alloc: Global, fixed: Fixed) -> Result<Instruction, NoMemory>
 }
 
 /// A block of this code.
-pub fn block(alloc: Global, fixed: &[Fixed]) -> Result<Block, NoMemory>
+fn block(alloc: Global, fixed: &[Fixed]) -> Result<Block, NoMemory>
     ensures { IfOk result (λ made. made ≡ block (code fixed.now)) }
 {
     let mut code = Vec::new(alloc);
@@ -121,13 +120,23 @@ pub fn block(alloc: Global, fixed: &[Fixed]) -> Result<Block, NoMemory>
 }
 
 /// A routine of these blocks.
-pub fn routine(parameters: u32, registers: u32, locals: u32, blocks: Vec<Block>) -> Routine
-    ensures { result ≡ record { parameters = parameters; registers = registers; locals = locals; blocks = blocks.items } }
+pub fn routine(
+    alloc: Global,
+    parameters: u32,
+    registers: u32,
+    locals: u32,
+    blocks: &[&[Fixed]],
+) -> Result<Routine, NoMemory>
+    ensures { IfOk result (λ made. made ≡ record { parameters = parameters; registers = registers; locals = locals; blocks = map (λ each. block (code each.now)) blocks.now }) }
 {
-    Routine {
+    let mut made = Vec::new(alloc);
+    for each in blocks {
+        made.push(block(alloc, *each)?)?;
+    }
+    Ok(Routine {
         parameters,
         registers,
         locals,
-        blocks: Sequence::from(blocks),
-    }
+        blocks: Sequence::from(made),
+    })
 }

@@ -2,7 +2,7 @@
 ghost use Rattle.op_rt_text.specs.Take.{take};
 ghost use Rattle.std.specs.Prelude.{◌≡◌, IfOk};
 
-use crate::parts::{Arguments, Fixed, block, routine};
+use crate::parts::{Arguments, Fixed, routine};
 use crate::{COPY_BYTES, COPY_WORDS};
 use op_base::NoMemory;
 use op_low::{Routine, VirtualRegister};
@@ -49,9 +49,5 @@ pub const COPIES_BYTES: [Fixed; 2] = [
 pub fn take(alloc: Global) -> Result<Routine, NoMemory>
     ensures { IfOk result (λ routine. routine ≡ take) }
 {
-    let mut blocks = Vec::new(alloc);
-    blocks.push(block(alloc, &BEGINS)?)?;
-    blocks.push(block(alloc, &COPIES_WORDS)?)?;
-    blocks.push(block(alloc, &COPIES_BYTES)?)?;
-    Ok(routine(2, 5, 0, blocks))
+    routine(alloc, 2, 5, 0, &[&BEGINS, &COPIES_WORDS, &COPIES_BYTES])
 }

@@ -2,7 +2,7 @@
 ghost use Rattle.op_rt_text.specs.Truth.{write_truth};
 ghost use Rattle.std.specs.Prelude.{◌≡◌, IfOk};
 
-use crate::parts::{Arguments, Fixed, block, routine};
+use crate::parts::{Arguments, Fixed, routine};
 use crate::{FALSE_TEXT, TRUE_TEXT, WRITE_BYTES};
 use op_base::NoMemory;
 use op_low::{Routine, VirtualRegister};
@@ -55,9 +55,5 @@ pub const WRITES_TRUE: [Fixed; 4] = [
 pub fn write_truth(alloc: Global) -> Result<Routine, NoMemory>
     ensures { IfOk result (λ routine. routine ≡ write_truth) }
 {
-    let mut blocks = Vec::new(alloc);
-    blocks.push(block(alloc, &CHOOSES)?)?;
-    blocks.push(block(alloc, &WRITES_FALSE)?)?;
-    blocks.push(block(alloc, &WRITES_TRUE)?)?;
-    Ok(routine(2, 5, 0, blocks))
+    routine(alloc, 2, 5, 0, &[&CHOOSES, &WRITES_FALSE, &WRITES_TRUE])
 }
