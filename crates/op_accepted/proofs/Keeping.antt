@@ -13,9 +13,10 @@ use Rattle.op_core.specs.declared.constant.Const.{Const}
 use Rattle.op_core.specs.declared.constant.Const.TheVariants.{Ordinal, Text, Set as SetOf, Nil as NilOf}
 use Rattle.op_core.specs.declared.ids.TypeId.{TypeId}
 use Rattle.op_core.specs.declared.program.Core.{Core}
+use Rattle.op_meaning.specs.Every.{is_text, text_after}
 use Rattle.op_plain.specs.Plain.{are_plain_arguments, are_plain_branches, are_plain_elements, are_plain_statements, are_plain_steps, is_plain_amount, is_plain_argument, is_plain_bare, is_plain_built_in, is_plain_constant, is_plain_element, is_plain_expression, is_plain_item, is_plain_root, is_plain_statement, is_plain_step}
 use Rattle.op_sizes.specs.Texts.{action_texts, argument_texts, arguments_texts, branches_texts, built_in_texts, constant_texts, element_texts, elements_texts, expression_texts, item_texts, items_texts, root_texts, statement_texts, statements_texts, steps_texts}
-use Rattle.op_typing.specs.Simple.{IsSolidType, is_solid, is_text, text_after}
+use Rattle.op_typing.specs.Simple.{IsSolidType, is_solid}
 
 -- this holds of each of the texts
 pub record AllFit (Fits : List ℕ → Type 0) (texts : List (List ℕ)) : Type 0 where

@@ -33,6 +33,7 @@ use Rattle.op_core.specs.declared.routine.Variable.{Variable as VariableRow}
 use Rattle.op_core.specs.declared.types.CoreType.{CoreType}
 use Rattle.op_core.specs.declared.types.CoreType.TheVariants as type
 use Rattle.op_core.specs.declared.types.Field.{Field}
+use Rattle.op_meaning.specs.Every.{text_after}
 use Rattle.op_plain.specs.Plain.{is_plain_argument, is_plain_expression, is_plain_step}
 use Rattle.op_tree.specs.declared.position.Name.{Name}
 use Rattle.op_tree.specs.declared.position.Position.{Position}
@@ -41,7 +42,7 @@ use Rattle.op_types.specs.Names.{Named, meaning_of}
 use Rattle.op_types.specs.Operators as table
 use Rattle.op_types.specs.declared.visible.Meaning.{Meaning}
 use Rattle.op_types.specs.declared.visible.Meaning.TheVariants as meaning
-use Rattle.op_typing.specs.Simple.{IsSolidType, is_solid, text_after}
+use Rattle.op_typing.specs.Simple.{IsSolidType, is_solid}
 use Rattle.op_accepted.specs.Fit.{IfAny, IfTyped, IsFitHere, IsFitMeaning, IsFitMeant, IsFitTables, IsFitTree, IsFitValue, IsSolidTree, any_text, some, stays_text, typed}
 use Rattle.op_accepted.proofs.ConstantParts.{nodes_count, numeral_fits}
 use Rattle.op_accepted.proofs.Parts.{fits_changed, fits_entry, fits_fine, fits_silent, fits_test, fits_unshown, fits_whether, fits_with}

@@ -17,6 +17,7 @@ use Rattle.op_core.specs.declared.operation.Origin.TheVariants.{Cast as CastOrig
 use Rattle.op_core.specs.declared.program.Core.{Core}
 use Rattle.op_core.specs.declared.types.CoreType.{CoreType}
 use Rattle.op_core.specs.declared.types.CoreType.TheVariants as type
+use Rattle.op_meaning.specs.Every.{text_after}
 use Rattle.op_plain.specs.Plain.{is_plain_expression, is_plain_step}
 use Rattle.op_tree.specs.declared.operator.Operator.{Operator}
 use Rattle.op_tree.specs.declared.operator.Operator.TheVariants.{Equal, NotEqual, Less, Greater, LessEqual, GreaterEqual, In_, Is, Add, Subtract, Or, Xor, Multiply, Slash, Div, Mod_, And, Shl, Shr, As_}
@@ -35,7 +36,7 @@ use Rattle.op_types.specs.declared.sort.OrdinalKind.{OrdinalKind}
 use Rattle.op_types.specs.declared.sort.OrdinalKind.TheVariants as kind
 use Rattle.op_types.specs.declared.sort.Sort.{Sort}
 use Rattle.op_types.specs.declared.sort.Sort.TheVariants as sort
-use Rattle.op_typing.specs.Simple.{IsSolidType, asks_text, is_solid, text_after}
+use Rattle.op_typing.specs.Simple.{IsSolidType, asks_text, is_solid}
 use Rattle.op_judgement.specs.Judgement.{checked}
 use Rattle.op_accepted.specs.Fit.{IfAny, IfTyped, IsFitConstant, IsFitTables, IsFitTree, IsFitValue, any_text, stays_text}
 use Rattle.op_accepted.proofs.ConstantParts.{application_solid, common_sets, operation_solid, operator_fits, prefix_fits, prefixed_solid, use_fits}

@@ -15,6 +15,7 @@ use Rattle.op_core.specs.declared.operation.Conversion.{Conversion}
 use Rattle.op_core.specs.declared.operation.Origin.TheVariants.{Implied}
 use Rattle.op_core.specs.declared.program.Core.{Core}
 use Rattle.op_core.specs.declared.types.CoreType.TheVariants as type
+use Rattle.op_meaning.specs.Every.{is_text, text_after}
 use Rattle.op_plain.specs.Plain.{are_apart, are_plain_steps, is_plain_constant, is_plain_root, is_plain_step}
 use Rattle.op_sizes.specs.Written.{is_implied}
 use Rattle.op_typed.proofs.Sorting.{stands_as}
@@ -25,7 +26,7 @@ use Rattle.op_types.specs.Values.{contains, in_range, within}
 use Rattle.op_types.specs.declared.sort.OrdinalKind.{OrdinalKind}
 use Rattle.op_types.specs.declared.sort.Sort.{Sort}
 use Rattle.op_types.specs.declared.sort.Sort.TheVariants as sort
-use Rattle.op_typing.specs.Simple.{IsSolidType, is_solid, is_text, text_after}
+use Rattle.op_typing.specs.Simple.{IsSolidType, is_solid}
 use Rattle.op_accepted.specs.Fit.{IsFitConstant, IsFitTables, IsFitTree, IsFitValue, any_text, ends_implied, ends_text, ends_written, stays_text}
 use Rattle.op_accepted.proofs.SetTypes.{sort_solid}
 use Rattle.op_typed.proofs.Trees.{type_then}

@@ -18,11 +18,12 @@ use Rattle.op_core.specs.declared.ids.TypeId.{TypeId}
 use Rattle.op_core.specs.declared.program.Core.{Core}
 use Rattle.op_core.specs.declared.types.CoreType.{CoreType}
 use Rattle.op_core.specs.declared.types.CoreType.TheVariants.{String, Subrange, Set, Array, DynamicArray, OpenArray, Broken}
+use Rattle.op_meaning.specs.Every.{is_text, text_after}
 use Rattle.op_plain.specs.Plain.{are_plain_statements, is_plain_expression, is_plain_statement}
 use Rattle.op_sizes.specs.Written.{is_implied}
 use Rattle.op_types.specs.declared.visible.Meaning.{Meaning}
 use Rattle.op_types.specs.declared.visible.Meaning.TheVariants as meaning
-use Rattle.op_typing.specs.Simple.{IsSolidType, is_text, text_after}
+use Rattle.op_typing.specs.Simple.{IsSolidType}
 use Rattle.op_typing.specs.SimpleTests.{is_counted}
 
 -- ---- what a part means

@@ -19,12 +19,13 @@ use Rattle.op_core.specs.declared.types.CoreType.{CoreType}
 use Rattle.op_core.specs.declared.types.CoreType.TheVariants.{Integer, Boolean, Char, String, Nil, Nothing, EmptySet, Enumeration, Subrange, Set, Record, Array, DynamicArray, OpenArray, Class, Interface, Broken}
 use Rattle.op_core.specs.declared.types.IntegerKind.TheVariants.{Signed8, Unsigned8, Signed16, Unsigned16, Signed32}
 use Rattle.op_frames.proofs.MadeLemmas.{every_append}
-use Rattle.op_frames.specs.Counted.{IsCounted, IsCountedRoot, AreCountedSteps, IsCountedAction, AreCountedElements, IsCountedElement, AreCountedArguments, IsCountedArgument}
+use Rattle.op_frames.specs.Counted.{IsCounted, counted_asks}
 use Rattle.op_frames.specs.Made.{Every, AreMade, IsMade}
 use Rattle.op_frames.specs.Scratch.{given_room, givens_room, receiver_room}
 use Rattle.op_frames.specs.Within.{StepsBelow, ActionBelow, GivenBelow, ReceiverBelow, IsWithin}
 use Rattle.op_meaning.specs.Actions.{Action, constant, load, copy, look, arithmetic, compare, negate, complement, invert, absolute, odd, upper, pick, low_bits, check, neighbour, single as lone, span, combine, contains, check_set}
 use Rattle.op_meaning.specs.Charge.{Weight, nodes_of, valued, expression_weight, root_weight, steps_weight, action_weight, conversion_weight, elements_weight, element_weight, arguments_weight, argument_weight, count_of, listed_values}
+use Rattle.op_meaning.specs.Every.{EveryNode, action_nodes, argument_nodes, arguments_nodes, element_nodes, elements_nodes, is_text, root_nodes, steps_nodes, text_after}
 use Rattle.op_meaning.specs.Expressions.{Here, past, past_whole, Env, Now, ready, at_path, a_text, Found, found, whole_path, path_of, loaded, own_by, own, then_acts, then_step, element_step, then_index_by, then_index, is_comparison, on_two, goes_on_at, second_here, two_by, is_boolean, prefix, converted_by, converted, moved, applied, measured, looked_at, applied_by, of_constant, receiver_by, receiver_of, result_of, given_by, AllPassed, OnePassed, find, make, find_root, find_steps, find_step, gather, gather_one, pass, pass_one, low_in, high_in}
 use Rattle.op_meaning.specs.Items.{Given, by_value, by_reference, by_place, by_copy, act, also, enter, Items, none, then_do, ◌&◌, only, acts}
 use Rattle.op_meaning.specs.Paths.{Path, Step, field as part_field, element as part_element, with_step, root_of, path_to}
@@ -76,7 +77,7 @@ pub listed_node : (core : Core) (of : TypeId) (n : ℕ) → nodes_of (listed_val
 unfolding listed_values
 listed_node core of n = refl
 
-pub root_some : (core : Core) (of : TypeId) (root : Start) → IsCountedRoot root → 1 ≤ nodes_of (root_weight core of root)
+pub root_some : (core : Core) (of : TypeId) (root : Start) → EveryNode counted_asks (root_nodes root of) → 1 ≤ nodes_of (root_weight core of root)
 root_some core of (fixed v nodes words) c = c
 root_some core of (variable id) c = let e = valued_node core of in omega (arith, e)
 root_some core of (object id) c = absurd c
@@ -323,15 +324,15 @@ module _ (blocks top room : ℕ) where
   mutual
     pub find_well : (env : Env) (here : Here) (e : Expression) → IsCounted e → here.temp + 2 * nodes_of (expression_weight env.core e) ≤ top → 2 * nodes_of (expression_weight env.core e) + 1 ≤ room → IsFound here (nodes_of (expression_weight env.core e)) (find env here e)
     find_well env here (expression root of others) c t r =
-        steps_well env here of others (nodes_of (root_weight env.core of root)) (find_root env here of root) c.1 (root_well env here of root c.0 (omega (arith, t)) (omega (arith, r))) t r
+        steps_well env here of others (is_text root) (nodes_of (root_weight env.core of root)) (find_root env here of root) c.1 (root_well env here of root c.0 (omega (arith, t)) (omega (arith, r))) t r
 
     pub make_well : (env : Env) (here : Here) (e : Expression) → IsCounted e → here.temp + 2 * nodes_of (expression_weight env.core e) ≤ top → 2 * nodes_of (expression_weight env.core e) + 1 ≤ room → IsFound here (nodes_of (expression_weight env.core e)) (make env here e)
     make_well env here (expression root of others) c t r =
         let n = nodes_of (root_weight env.core of root) in
-        let w = steps_well env here of others n (find_root env here of root) c.1 (root_well env here of root c.0 (omega (arith, t)) (omega (arith, r))) t r in
+        let w = steps_well env here of others (is_text root) n (find_root env here of root) c.1 (root_well env here of root c.0 (omega (arith, t)) (omega (arith, r))) t r in
         own_well env (type_after of others) here (n + nodes_of (steps_weight env.core others)) (find_steps env here of others (find_root env here of root)) w t r
 
-    root_well : (env : Env) (here : Here) (of : TypeId) (root : Start) → IsCountedRoot root → here.temp + 2 * nodes_of (root_weight env.core of root) ≤ top → 2 * nodes_of (root_weight env.core of root) + 1 ≤ room → IsFound here (nodes_of (root_weight env.core of root)) (find_root env here of root)
+    root_well : (env : Env) (here : Here) (of : TypeId) (root : Start) → EveryNode counted_asks (root_nodes root of) → here.temp + 2 * nodes_of (root_weight env.core of root) ≤ top → 2 * nodes_of (root_weight env.core of root) + 1 ≤ room → IsFound here (nodes_of (root_weight env.core of root)) (find_root env here of root)
     root_well env here of (fixed v nodes words) c t r = constant_well v here nodes c (omega (arith, c, t))
     root_well env here of (variable id) c t r = let e = valued_node env.core of in let short : 0 < nodes_of (valued env.core of) = omega (arith, e) in record { items = tt; used = short; now = (short, tt) }
     root_well env here of (object id) c t r = absurd c
@@ -352,15 +353,15 @@ module _ (blocks top room : ℕ) where
     root_well env here of eof c t r = let e = valued_node env.core of in record { items = tt; used = omega (arith, e); now = tt }
     root_well env here of eoln c t r = let e = valued_node env.core of in record { items = tt; used = omega (arith, e); now = tt }
 
-    steps_well : (env : Env) (here : Here) (of : TypeId) (ss : Steps) (n : ℕ) (f : Found) → AreCountedSteps ss → IsFound here n f → here.temp + 2 * (n + nodes_of (steps_weight env.core ss)) ≤ top → 2 * (n + nodes_of (steps_weight env.core ss)) + 1 ≤ room → IsFound here (n + nodes_of (steps_weight env.core ss)) (find_steps env here of ss f)
-    steps_well env here of no_steps n f c w t r = found_more here n (n + 0) f (omega arith) w
-    steps_well env here of (steps action next others) n f c w t r =
+    steps_well : (env : Env) (here : Here) (of : TypeId) (ss : Steps) (text : Bool) (n : ℕ) (f : Found) → EveryNode counted_asks (steps_nodes text ss) → IsFound here n f → here.temp + 2 * (n + nodes_of (steps_weight env.core ss)) ≤ top → 2 * (n + nodes_of (steps_weight env.core ss)) + 1 ≤ room → IsFound here (n + nodes_of (steps_weight env.core ss)) (find_steps env here of ss f)
+    steps_well env here of no_steps text n f c w t r = found_more here n (n + 0) f (omega arith) w
+    steps_well env here of (steps action next others) text n f c w t r =
         let a = nodes_of (action_weight env.core next action) in
         let s = nodes_of (steps_weight env.core others) in
         let g = step_well env here of action next n f c.0 w (omega (arith, t)) (omega (arith, r)) in
-        found_more here (n + a + s) (n + (a + s)) _ (omega arith) (steps_well env here next others (n + a) (find_step env here of action next f) c.1 g (omega (arith, t)) (omega (arith, r)))
+        found_more here (n + a + s) (n + (a + s)) _ (omega arith) (steps_well env here next others (text_after text action) (n + a) (find_step env here of action next f) c.1 g (omega (arith, t)) (omega (arith, r)))
 
-    step_well : (env : Env) (here : Here) (of : TypeId) (action : Doing) (to : TypeId) (n : ℕ) (f : Found) → IsCountedAction action → IsFound here n f → here.temp + 2 * (n + nodes_of (action_weight env.core to action)) ≤ top → 2 * (n + nodes_of (action_weight env.core to action)) + 1 ≤ room → IsFound here (n + nodes_of (action_weight env.core to action)) (find_step env here of action to f)
+    step_well : (env : Env) (here : Here) (of : TypeId) (action : Doing) (to : TypeId) (n : ℕ) (f : Found) → EveryNode counted_asks (action_nodes action) → IsFound here n f → here.temp + 2 * (n + nodes_of (action_weight env.core to action)) ≤ top → 2 * (n + nodes_of (action_weight env.core to action)) + 1 ≤ room → IsFound here (n + nodes_of (action_weight env.core to action)) (find_step env here of action to f)
     step_well env here of (convert k origin) to n f c w t r =
         let o = own_well env of here n f w (omega (arith, t)) (omega (arith, r)) in
         let three : 3 ≤ room = omega (arith, w.used, r) in
@@ -394,13 +395,13 @@ module _ (blocks top room : ℕ) where
     step_well env here of (is class) to n f c w t r = found_more here n _ f (omega arith) w
     step_well env here of (copied e e') to n f c w t r = found_more here n _ f (omega arith) w
 
-    gather_well : (env : Env) (here : Here) (es : Elements) → AreCountedElements es → here.temp + 2 * (1 + nodes_of (elements_weight env.core es)) ≤ top → 2 * (1 + nodes_of (elements_weight env.core es)) + 1 ≤ room → AreMade (IsWithin top room) blocks (gather env here es)
+    gather_well : (env : Env) (here : Here) (es : Elements) → EveryNode counted_asks (elements_nodes es) → here.temp + 2 * (1 + nodes_of (elements_weight env.core es)) ≤ top → 2 * (1 + nodes_of (elements_weight env.core es)) + 1 ≤ room → AreMade (IsWithin top room) blocks (gather env here es)
     gather_well env here no_elements c t r = tt
     gather_well env here (elements e es) c t r =
         made_both (IsWithin top room) blocks (gather_one env here e) (then_do (act (combine Add here.temp here.temp (here.temp + 1))) (gather env here es)) (member_well env here e c.0 (omega (arith, t)) (omega (arith, r)))
         (((omega (arith, t), omega (arith, t), omega (arith, t)), omega (arith, r)), gather_well env here es c.1 (omega (arith, t)) (omega (arith, r)))
 
-    member_well : (env : Env) (here : Here) (m : Member) → IsCountedElement m → here.temp + 2 * (1 + nodes_of (element_weight env.core m)) ≤ top → 2 * (1 + nodes_of (element_weight env.core m)) + 1 ≤ room → AreMade (IsWithin top room) blocks (gather_one env here m)
+    member_well : (env : Env) (here : Here) (m : Member) → EveryNode counted_asks (element_nodes m) → here.temp + 2 * (1 + nodes_of (element_weight env.core m)) ≤ top → 2 * (1 + nodes_of (element_weight env.core m)) + 1 ≤ room → AreMade (IsWithin top room) blocks (gather_one env here m)
     member_well env here (one e) c t r =
         let w = make_well env (past 1 here) e c (omega (arith, t)) (omega (arith, r)) in
         let some = expression_some env.core e c in
@@ -412,7 +413,7 @@ module _ (blocks top room : ℕ) where
         made_three (IsWithin top room) blocks (make env (past 1 here) e).items (make env (past 2 here) e').items (only (act (span (here.temp + 1) (here.temp + 1) (here.temp + 2)))) w.items w'.items
         (((omega (arith, t), omega (arith, t), omega (arith, t, some)), omega (arith, r)), tt)
 
-    pass_well : (env : Env) (here : Here) (as' : Arguments) → AreCountedArguments as' → here.temp + 2 * nodes_of (arguments_weight env.core as') ≤ top → 2 * nodes_of (arguments_weight env.core as') + 1 ≤ room → IsPassed (nodes_of (arguments_weight env.core as')) (pass env here as')
+    pass_well : (env : Env) (here : Here) (as' : Arguments) → EveryNode counted_asks (arguments_nodes as') → here.temp + 2 * nodes_of (arguments_weight env.core as') ≤ top → 2 * nodes_of (arguments_weight env.core as') + 1 ≤ room → IsPassed (nodes_of (arguments_weight env.core as')) (pass env here as')
     pass_well env here no_arguments c t r = record { items = tt; given = tt; room_is = omega arith }
     pass_well env here (arguments a others) c t r =
         let first = pass_one env here a in
@@ -420,7 +421,7 @@ module _ (blocks top room : ℕ) where
         let rest = pass_well env (past first.used (past_whole here)) others c.1 (omega (arith, w.used, t)) (omega (arith, r)) in
         record { items = made_both (IsWithin top room) blocks first.items _ w.items rest.items; given = (w.given, rest.given); room_is = omega (arith, w.room_is, rest.room_is) }
 
-    one_well : (env : Env) (here : Here) (a : Argument) → IsCountedArgument a → here.temp + 2 * nodes_of (argument_weight env.core a) ≤ top → 2 * nodes_of (argument_weight env.core a) + 1 ≤ room → IsOne (nodes_of (argument_weight env.core a)) (pass_one env here a)
+    one_well : (env : Env) (here : Here) (a : Argument) → EveryNode counted_asks (argument_nodes a) → here.temp + 2 * nodes_of (argument_weight env.core a) ≤ top → 2 * nodes_of (argument_weight env.core a) + 1 ≤ room → IsOne (nodes_of (argument_weight env.core a)) (pass_one env here a)
     one_well env here (value e) c t r =
         let w = make_well env here e c t r in
         let some = expression_some env.core e c in

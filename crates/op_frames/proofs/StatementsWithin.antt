@@ -17,11 +17,12 @@ use Rattle.op_core.specs.declared.types.CoreType.{CoreType}
 use Rattle.op_core.specs.declared.types.CoreType.TheVariants.{Array, Boolean, Char, Set}
 use Rattle.op_core.specs.declared.types.IntegerKind.TheVariants.{Signed32}
 use Rattle.op_frames.proofs.ExpressionsWithin.{IsFound, IsNow, made_both, made_acts, expression_some, path_short, steps_more, loaded_well, acts_well, converted_well, find_well, make_well, valued_node}
-use Rattle.op_frames.specs.Counted.{IsCounted, IsBare, IsCountedAmount, IsCountedItem, AreCountedItems, IsCountedBuiltIn, IsCountedStatement, AreCountedStatements, AreCountedBranches, AreCountedLabels}
+use Rattle.op_frames.specs.Counted.{IsCounted, IsBare, IsCountedAmount, IsCountedStatement, AreCountedStatements, AreCountedLabels, counted_asks}
 use Rattle.op_frames.specs.Made.{Every, AreMade, IsMade, AreMadeTurns, AreMadeCases, ArmsOf}
 use Rattle.op_frames.specs.Within.{StepsBelow, ActionBelow, IsWithin, labels_among}
 use Rattle.op_meaning.specs.Charge.{Weight, nodes_of, expression_weight, item_weight, items_weight, built_in_weight, labels_weight, counter_weight, statement_weight, statements_weight, branches_weight}
 use Rattle.op_meaning.specs.Actions.{Action, constant, load, store, copy, arithmetic, compare, check, single as lone, combine, contains, write_number, write_truth, write_char, write_text}
+use Rattle.op_meaning.specs.Every.{EveryWork, branches_works, built_in_works, item_works, items_works}
 use Rattle.op_meaning.specs.Expressions.{Here, past, past_whole, Env, Now, ready, at_path, a_text, Found, found, whole_path, path_of, own, then_acts, low_in, high_in, counted_of, element_step, converted, find, make}
 use Rattle.op_meaning.specs.Items.{act, choose, select, loop, body_first, protect, leave, halt, Items, none, then_do, Turns, turns, Cases, no_cases, cases, ◌&◌, only, acts}
 use Rattle.op_meaning.specs.Paths.{Path, Step, with_step}
@@ -73,7 +74,7 @@ module _ (blocks top room : ℕ) where
   value_well env here of f width ready a b less r = three_parts f.items width (only (act (write_by (host env.core (type_at env.core of)) here.temp))) a b (written_well (host env.core (type_at env.core of)) here.temp less r, tt)
   value_well env here of f width (at_path p) a b less r = three_parts f.items width (only (act (write_by (host env.core (type_at env.core of)) here.temp))) a b (written_well (host env.core (type_at env.core of)) here.temp less r, tt)
 
-  one_written : (env : Env) (here : Here) (o : Output) → IsCountedItem o → here.temp + 2 * (1 + nodes_of (item_weight env.core o)) ≤ top → 2 * (1 + nodes_of (item_weight env.core o)) + 1 ≤ room → IsItems (write_one env here o)
+  one_written : (env : Env) (here : Here) (o : Output) → EveryWork counted_asks (item_works o) → here.temp + 2 * (1 + nodes_of (item_weight env.core o)) ≤ top → 2 * (1 + nodes_of (item_weight env.core o)) + 1 ≤ room → IsItems (write_one env here o)
   one_written env here (plain e) c t r =
       let w = make_well blocks top room env here e c (omega (arith, t)) (omega (arith, r)) in
       value_well env here (type_of e) (make env here e) (no_width here) (make env here e).now w.items ((omega (arith, t), omega arith), tt) (omega (arith, t)) (omega (arith, r))
@@ -82,7 +83,7 @@ module _ (blocks top room : ℕ) where
       let w' = make_well blocks top room env (past 1 here) width c.1 (omega (arith, t)) (omega (arith, r)) in
       value_well env here (type_of e) (make env here e) (make env (past 1 here) width).items (make env here e).now w.items w'.items (omega (arith, t)) (omega (arith, r))
 
-  all_written : (env : Env) (here : Here) (os : List Output) → AreCountedItems os → here.temp + 2 * (1 + nodes_of (items_weight env.core os)) ≤ top → 2 * (1 + nodes_of (items_weight env.core os)) + 1 ≤ room → IsItems (write_all env here os)
+  all_written : (env : Env) (here : Here) (os : List Output) → EveryWork counted_asks (items_works os) → here.temp + 2 * (1 + nodes_of (items_weight env.core os)) ≤ top → 2 * (1 + nodes_of (items_weight env.core os)) + 1 ≤ room → IsItems (write_all env here os)
   all_written env here [] c t r = tt
   all_written env here (o ∷ os) c t r =
       both (write_one env here o) (write_all env here os) (one_written env here o c.0 (omega (arith, t)) (omega (arith, r))) (all_written env here os c.1 (omega (arith, t)) (omega (arith, r)))
@@ -148,7 +149,7 @@ module _ (blocks top room : ℕ) where
       three_parts f.items (make env (past (f.used + 1) (past_whole here)) e).items (acts (lone (here.temp + f.used + 1) (here.temp + f.used + 1) ∷ load (here.temp + f.used) Signed32 path ∷ combine o (here.temp + f.used) (here.temp + f.used) (here.temp + f.used + 1) ∷ store path Signed32 (here.temp + f.used) ∷ [])) w.items x.items
       (((next, next), three), (((at, below), short), (((at, at, next), three), (((at, below), short), tt))))
 
-  built_in_well : (env : Env) (here : Here) (b : BuiltIn) → IsCountedBuiltIn b → here.temp + 2 * nodes_of (built_in_weight env.core b) ≤ top → 2 * nodes_of (built_in_weight env.core b) + 1 ≤ room → IsItems (done_built_in env here b)
+  built_in_well : (env : Env) (here : Here) (b : BuiltIn) → EveryWork counted_asks (built_in_works b) → here.temp + 2 * nodes_of (built_in_weight env.core b) ≤ top → 2 * nodes_of (built_in_weight env.core b) + 1 ≤ room → IsItems (done_built_in env here b)
   built_in_well env here (write items ends) c t r = both (write_all env here items) (line_end here ends) (all_written env here items c t r) (line_well here ends (omega (arith, t)) (omega (arith, r)))
   built_in_well env here (count d target amount checked) c t r = count_well env here d target amount checked c.0 c.1 t r
   built_in_well env here (include s e) c t r = change_well env here Add s e c.0 c.1 t r
@@ -225,7 +226,7 @@ module _ (blocks top room : ℕ) where
   labels_few core [] c = omega arith
   labels_few core (l ∷ ls) (some, c) = let rest = labels_few core ls c in omega (arith, some, rest)
 
-  arms_few : (env : Env) (here : Here) (bs : Branches) (arms : List Arm) → AreCountedBranches bs → ArmsOf blocks (cases_of env here bs) arms → labels_among arms ≤ nodes_of (branches_weight env.core bs)
+  arms_few : (env : Env) (here : Here) (bs : Branches) (arms : List Arm) → EveryWork counted_asks (branches_works bs) → ArmsOf blocks (cases_of env here bs) arms → labels_among arms ≤ nodes_of (branches_weight env.core bs)
   arms_few env here no_branches [] c are = omega arith
   arms_few env here no_branches (a ∷ arms) c are = absurd are
   arms_few env here (branches labels s bs) [] c are = absurd are
@@ -307,7 +308,7 @@ module _ (blocks top room : ℕ) where
     all_well env here (statements s ss) c t r =
         both (work_of env here s) (work_of_all env here ss) (work_well env here s c.0 (omega (arith, t)) (omega (arith, r))) (all_well env here ss c.1 (omega (arith, t)) (omega (arith, r)))
 
-    branches_well : (env : Env) (here : Here) (bs : Branches) → AreCountedBranches bs → here.temp + 2 * nodes_of (branches_weight env.core bs) ≤ top → 2 * nodes_of (branches_weight env.core bs) + 1 ≤ room → AreMadeCases (IsWithin top room) blocks (cases_of env here bs)
+    branches_well : (env : Env) (here : Here) (bs : Branches) → EveryWork counted_asks (branches_works bs) → here.temp + 2 * nodes_of (branches_weight env.core bs) ≤ top → 2 * nodes_of (branches_weight env.core bs) + 1 ≤ room → AreMadeCases (IsWithin top room) blocks (cases_of env here bs)
     branches_well env here no_branches c t r = tt
     branches_well env here (branches labels s bs) c t r =
         (work_well env here s c.1 (omega (arith, t)) (omega (arith, r)), branches_well env here bs c.2 (omega (arith, t)) (omega (arith, r)))

@@ -1,5 +1,6 @@
 mod ChargeRows
 pub mod Charged
+pub mod EachNode
 pub mod Endings
 pub mod Programs
 pub mod SetBits

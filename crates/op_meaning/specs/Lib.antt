@@ -5,6 +5,7 @@ pub mod Costs
 pub mod Demands
 pub mod Ending
 pub mod Errors
+pub mod Every
 pub mod Expressions
 pub mod Facts
 pub mod Frames

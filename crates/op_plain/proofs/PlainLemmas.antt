@@ -29,12 +29,12 @@ use Rattle.op_mir.proofs.Unmanaged.{ending_by_row, no_globals}
 use Rattle.op_mir.specs.Plain.{ArePlainUnits, IfExists}
 use Rattle.op_plain.proofs.CountedLemmas.{statements_counted}
 use Rattle.op_plain.proofs.Parts.{Tests, failed, tests_of}
-use Rattle.op_plain.proofs.SimpleLemmas.{simple_test}
+use Rattle.op_plain.proofs.SimpleLemmas.{simple_program}
 use Rattle.op_plain.proofs.WrittenLemmas.{statements_written}
 use Rattle.op_plain.specs.Claims.{IsPlainCore, PlainByItems}
 use Rattle.op_plain.specs.Plain.{is_plain_body, is_plain_program, is_plain_result, is_plain_role, is_plain_routine, is_plain_unit, is_plain_variable, takes_few, most_units}
 use Rattle.op_sizes.specs.Written.{AreWrittenStatements}
-use Rattle.op_typing.proofs.SimpleTestLemmas.{none_is, of_unit, simple_by_test}
+use Rattle.op_typing.proofs.SimpleTestLemmas.{none_is, of_unit}
 use Rattle.op_typing.specs.SimpleTests.{begins_itself, gives_nothing, is_none, is_of_unit, is_procedure, is_short_text, is_solid_type}
 
 -- ---- lists
@@ -170,7 +170,7 @@ pub plain_by_test : (core : Core) → is_plain_program core ≡ true → IsPlain
 plain_by_test core e =
     let tests = tests_of core e in
     record {
-      simple = simple_by_test core (simple_test core tests);
+      simple = simple_program core tests;
       counted = λ stack r. counted_by core tests stack r (slice_get core.routines r) refl;
       written = λ stack r. written_by core tests stack r (slice_get core.routines r) refl;
       exceptions = none_is core.exceptions tests.exceptions;

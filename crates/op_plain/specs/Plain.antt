@@ -15,9 +15,10 @@ use Rattle.op_core.specs.declared.routine.Role.{Role}
 use Rattle.op_core.specs.declared.routine.Role.TheVariants.{Object, Handler}
 use Rattle.op_core.specs.declared.routine.Routine.{Routine}
 use Rattle.op_core.specs.declared.routine.Variable.{Variable}
+use Rattle.op_meaning.specs.Every.{is_text, text_after}
 use Rattle.op_meaning.specs.Shapes.{is_managed, no_type}
 use Rattle.op_sizes.specs.Written.{is_implied}
-use Rattle.op_typing.specs.Simple.{asks_text, is_text, text_after}
+use Rattle.op_typing.specs.Simple.{asks_text}
 use Rattle.op_typing.specs.SimpleTests.{begins_itself, is_counted, is_none, is_of_unit, is_procedure, is_short_text, is_solid_parameter, is_solid_type}
 use Rattle.op_core.specs.declared.statement.Label.{Label}
 

@@ -2,9 +2,9 @@
 ghost use Rattle.std.specs.Prelude.{◌≡◌, true, false};
 ghost use Rattle.op_core.specs.Expression.{action_of, argument_of, element_of, expr_of, root_of};
 ghost use Rattle.op_core.specs.Nodes.{arguments_of, elements_of, steps_of};
+ghost use Rattle.op_meaning.specs.Every.{is_text, text_after};
 ghost use Rattle.op_plain.specs.Plain.{are_apart, are_plain_arguments, are_plain_elements, is_plain_argument, is_plain_element, is_plain_expression, is_plain_root, is_plain_step, is_short};
 ghost use Rattle.op_sizes.specs.Written.{is_implied};
-ghost use Rattle.op_typing.specs.Simple.{is_text, text_after};
 ghost use Rattle.op_typing.specs.SimpleTests.{is_short_text};
 
 use crate::types::{asks_text, is_plain_constant, is_solid_type};

@@ -14,8 +14,9 @@ use Rattle.op_core.specs.declared.program.Core.{Core}
 use Rattle.op_core.specs.declared.types.CoreType.TheVariants.{Integer, Boolean, Char, String, Nil, Nothing, EmptySet, Enumeration, Subrange, Set, Record, Array, DynamicArray, OpenArray, Class, Interface, Broken}
 use Rattle.op_core.specs.declared.types.CoreType.{CoreType}
 use Rattle.op_core.specs.declared.types.IntegerKind.TheVariants.{Signed32}
-use Rattle.op_frames.specs.Counted.{IsCounted, IsCountedRoot, AreCountedSteps, IsCountedAction, AreCountedElements, IsCountedElement, AreCountedArguments, IsCountedArgument}
+use Rattle.op_frames.specs.Counted.{IsCounted, counted_asks}
 use Rattle.op_meaning.specs.Actions.{Action, constant, arithmetic, compare, complement, invert, pick, single as lone, span, combine}
+use Rattle.op_meaning.specs.Every.{EveryNode, action_nodes, argument_nodes, arguments_nodes, element_nodes, elements_nodes, is_text, root_nodes, steps_nodes, text_after}
 use Rattle.op_meaning.specs.Expressions.{Here, past, past_whole, Env, Now, ready, at_path, a_text, Found, loaded, own_by, own, then_acts, then_step, then_index_by, is_comparison, on_two, goes_on_at, second_here, two_by, is_boolean, prefix, converted_by, converted, moved, applied, measured, looked_at, applied_by, of_constant, receiver_of, result_of, find, make, find_root, find_steps, find_step, gather, gather_one, pass, pass_one}
 use Rattle.op_meaning.specs.Items.{act, also, enter, Items, none, then_do, ◌&◌, only, acts}
 use Rattle.op_meaning.specs.Paths.{Path, field as part_field}
@@ -195,19 +196,19 @@ module _ (w : List ℕ → ℕ) (g : Core) where
     pub find_keeps : (env : Env) (here : Here) (e : Expression) → IsCounted e → found_text (find env here e) ≤ total w (expression_texts e)
     find_keeps env here (expression root of others) c =
         let r = root_keeps env here of root c.0 in
-        let s = steps_keeps env here of others (total w (root_texts root)) (find_root env here of root) c.1 r in
+        let s = steps_keeps env here of others (is_text root) (total w (root_texts root)) (find_root env here of root) c.1 r in
         let j = total_join w (root_texts root) (steps_texts others) in
         omega (arith, s, j)
 
     pub make_keeps : (env : Env) (here : Here) (e : Expression) → IsCounted e → found_text (make env here e) ≤ total w (expression_texts e)
     make_keeps env here (expression root of others) c =
         let r = root_keeps env here of root c.0 in
-        let s = steps_keeps env here of others (total w (root_texts root)) (find_root env here of root) c.1 r in
+        let s = steps_keeps env here of others (is_text root) (total w (root_texts root)) (find_root env here of root) c.1 r in
         let o = own_keeps env (type_after of others) here (find_steps env here of others (find_root env here of root)) in
         let j = total_join w (root_texts root) (steps_texts others) in
         omega (arith, s, o, j)
 
-    root_keeps : (env : Env) (here : Here) (of : TypeId) (root : Start) → IsCountedRoot root → found_text (find_root env here of root) ≤ total w (root_texts root)
+    root_keeps : (env : Env) (here : Here) (of : TypeId) (root : Start) → EveryNode counted_asks (root_nodes root of) → found_text (find_root env here of root) ≤ total w (root_texts root)
     root_keeps env here of (fixed v nodes words) c = constant_keeps v here.temp
     root_keeps env here of (variable id) c = omega arith
     root_keeps env here of (object id) c = absurd c
@@ -221,15 +222,15 @@ module _ (w : List ℕ → ℕ) (g : Core) where
     root_keeps env here of eof c = omega arith
     root_keeps env here of eoln c = omega arith
 
-    steps_keeps : (env : Env) (here : Here) (of : TypeId) (ss : Steps) (n : ℕ) (f : Found) → AreCountedSteps ss → found_text f ≤ n → found_text (find_steps env here of ss f) ≤ n + total w (steps_texts ss)
-    steps_keeps env here of no_steps n f c less = omega (arith, less)
-    steps_keeps env here of (steps action next others) n f c less =
+    steps_keeps : (env : Env) (here : Here) (of : TypeId) (ss : Steps) (text : Bool) (n : ℕ) (f : Found) → EveryNode counted_asks (steps_nodes text ss) → found_text f ≤ n → found_text (find_steps env here of ss f) ≤ n + total w (steps_texts ss)
+    steps_keeps env here of no_steps text n f c less = omega (arith, less)
+    steps_keeps env here of (steps action next others) text n f c less =
         let g = step_keeps env here of action next n f c.0 less in
-        let rest = steps_keeps env here next others (n + total w (action_texts action)) (find_step env here of action next f) c.1 g in
+        let rest = steps_keeps env here next others (text_after text action) (n + total w (action_texts action)) (find_step env here of action next f) c.1 g in
         let j = total_join w (action_texts action) (steps_texts others) in
         omega (arith, rest, j)
 
-    step_keeps : (env : Env) (here : Here) (of : TypeId) (action : Doing) (to : TypeId) (n : ℕ) (f : Found) → IsCountedAction action → found_text f ≤ n → found_text (find_step env here of action to f) ≤ n + total w (action_texts action)
+    step_keeps : (env : Env) (here : Here) (of : TypeId) (action : Doing) (to : TypeId) (n : ℕ) (f : Found) → EveryNode counted_asks (action_nodes action) → found_text f ≤ n → found_text (find_step env here of action to f) ≤ n + total w (action_texts action)
     step_keeps env here of (convert k origin) to n f c less =
         let o = own_keeps env of here f in
         let a = converted_keeps env.core k to here.temp in
@@ -261,7 +262,7 @@ module _ (w : List ℕ → ℕ) (g : Core) where
     step_keeps env here of (is class) to n f c less = omega (arith, less)
     step_keeps env here of (copied e e') to n f c less = omega (arith, less)
 
-    gather_keeps : (env : Env) (here : Here) (es : Elements) → AreCountedElements es → items_text w g (gather env here es) ≤ total w (elements_texts es)
+    gather_keeps : (env : Env) (here : Here) (es : Elements) → EveryNode counted_asks (elements_nodes es) → items_text w g (gather env here es) ≤ total w (elements_texts es)
     gather_keeps env here no_elements c = omega arith
     gather_keeps env here (elements e es) c =
         let first = member_keeps env here e c.0 in
@@ -270,7 +271,7 @@ module _ (w : List ℕ → ℕ) (g : Core) where
         let j = total_join w (element_texts e) (elements_texts es) in
         omega (arith, first, rest, all, j)
 
-    member_keeps : (env : Env) (here : Here) (m : Member) → IsCountedElement m → items_text w g (gather_one env here m) ≤ total w (element_texts m)
+    member_keeps : (env : Env) (here : Here) (m : Member) → EveryNode counted_asks (element_nodes m) → items_text w g (gather_one env here m) ≤ total w (element_texts m)
     member_keeps env here (one e) c =
         let i = make_keeps env (past 1 here) e c in
         let all = both_text (make env (past 1 here) e).items (only (act (lone (here.temp + 1) (here.temp + 1)))) in
@@ -282,7 +283,7 @@ module _ (w : List ℕ → ℕ) (g : Core) where
         let both = total_join w (expression_texts e) (expression_texts e') in
         omega (arith, i, j, all, both)
 
-    pass_keeps : (env : Env) (here : Here) (as' : Arguments) → AreCountedArguments as' → items_text w g (pass env here as').items ≤ total w (arguments_texts as')
+    pass_keeps : (env : Env) (here : Here) (as' : Arguments) → EveryNode counted_asks (arguments_nodes as') → items_text w g (pass env here as').items ≤ total w (arguments_texts as')
     pass_keeps env here no_arguments c = omega arith
     pass_keeps env here (arguments a others) c =
         let first = pass_one env here a in
@@ -293,7 +294,7 @@ module _ (w : List ℕ → ℕ) (g : Core) where
         let j = total_join w (argument_texts a) (arguments_texts others) in
         omega (arith, f, r, all, j)
 
-    one_keeps : (env : Env) (here : Here) (a : Argument) → IsCountedArgument a → items_text w g (pass_one env here a).items ≤ total w (argument_texts a)
+    one_keeps : (env : Env) (here : Here) (a : Argument) → EveryNode counted_asks (argument_nodes a) → items_text w g (pass_one env here a).items ≤ total w (argument_texts a)
     one_keeps env here (value e) c = let i = make_keeps env here e c in omega (arith, i)
     one_keeps env here (place e) c = let i = find_keeps env here e c in omega (arith, i)
     one_keeps env here (array e) c = let i = find_keeps env here e c in omega (arith, i)

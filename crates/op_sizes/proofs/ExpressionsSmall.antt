@@ -17,15 +17,16 @@ use Rattle.op_core.specs.declared.types.CoreType.{CoreType}
 use Rattle.op_core.specs.declared.types.CoreType.TheVariants.{Integer, Boolean, Char, String, Nil, Nothing, EmptySet, Enumeration, Subrange, Set, Record, Array, DynamicArray, OpenArray, Class, Interface, Broken}
 use Rattle.op_core.specs.declared.types.IntegerKind.TheVariants.{Signed32}
 use Rattle.op_frames.proofs.ExpressionsWithin.{listed_node, valued_node}
-use Rattle.op_frames.specs.Counted.{IsCounted, IsCountedRoot, AreCountedSteps, IsCountedAction, AreCountedElements, IsCountedElement, AreCountedArguments, IsCountedArgument}
+use Rattle.op_frames.specs.Counted.{IsCounted, counted_asks}
 use Rattle.op_meaning.specs.Actions.{Action, constant, arithmetic, compare, complement, invert, pick, single as lone, span, combine}
 use Rattle.op_meaning.specs.Charge.{nodes_of, expression_weight, root_weight, steps_weight, action_weight, elements_weight, element_weight, arguments_weight, argument_weight, count_of}
+use Rattle.op_meaning.specs.Every.{EveryNode, action_nodes, argument_nodes, arguments_nodes, element_nodes, elements_nodes, is_text, root_nodes, steps_nodes, text_after}
 use Rattle.op_meaning.specs.Expressions.{Here, past, past_whole, Env, Now, ready, at_path, a_text, Found, path_of, loaded, own_by, own, then_acts, then_step, element_step, then_index_by, is_comparison, on_two, goes_on_at, second_here, two_by, is_boolean, prefix, converted_by, converted, moved, applied, measured, looked_at, applied_by, of_constant, receiver_by, receiver_of, result_of, given_by, find, make, find_root, find_steps, find_step, gather, gather_one, pass, pass_one}
 use Rattle.op_meaning.specs.Items.{act, also, enter, Items, none, then_do, ◌&◌, only, acts}
 use Rattle.op_meaning.specs.Paths.{Path, field as part_field}
 use Rattle.op_meaning.specs.Shapes.{Shape, single, composite, of_chars, of_elements, of_instance, shape_of, field_number}
 use Rattle.op_sizes.specs.Sizes.{action_size, given_size, givens_size, receiver_size, items_size}
-use Rattle.op_sizes.specs.Written.{is_implied, MayFollow, IsWritten, IsWrittenRoot, AreWrittenSteps, IsWrittenAction, AreWrittenElements, IsWrittenElement, AreWrittenArguments, IsWrittenArgument}
+use Rattle.op_sizes.specs.Written.{is_implied, MayFollow, IsWritten, AreApart, written_asks}
 use Rattle.op_tree.specs.declared.operator.Operator.{Operator}
 use Rattle.op_tree.specs.declared.operator.Operator.TheVariants.{Add, In_, Subtract}
 use Rattle.op_tree.specs.declared.operator.PrefixOperator.{PrefixOperator}
@@ -241,16 +242,16 @@ mutual
   pub find_small : (env : Env) (here : Here) (e : Expression) → IsCounted e → IsWritten e → found_size (find env here e) + 8 ≤ 44 * nodes_of (expression_weight env.core e)
   find_small env here (expression root of others) c w =
       let r = root_small env here of root c.0 w.0 in
-      steps_small env here of others false (nodes_of (root_weight env.core of root)) (find_root env here of root) c.1 w.1 (omega (arith, r))
+      steps_small env here of others (is_text root) false (nodes_of (root_weight env.core of root)) (find_root env here of root) c.1 w.1.0 w.1.1 (omega (arith, r))
 
   pub make_small : (env : Env) (here : Here) (e : Expression) → IsCounted e → IsWritten e → found_size (make env here e) + 8 ≤ 44 * nodes_of (expression_weight env.core e)
   make_small env here (expression root of others) c w =
       let r = root_small env here of root c.0 w.0 in
-      let s = steps_small env here of others false (nodes_of (root_weight env.core of root)) (find_root env here of root) c.1 w.1 (omega (arith, r)) in
+      let s = steps_small env here of others (is_text root) false (nodes_of (root_weight env.core of root)) (find_root env here of root) c.1 w.1.0 w.1.1 (omega (arith, r)) in
       let o = own_small env (type_after of others) here (find_steps env here of others (find_root env here of root)) in
       omega (arith, s, o)
 
-  root_small : (env : Env) (here : Here) (of : TypeId) (root : Start) → IsCountedRoot root → IsWrittenRoot root → found_size (find_root env here of root) + 13 ≤ 44 * nodes_of (root_weight env.core of root)
+  root_small : (env : Env) (here : Here) (of : TypeId) (root : Start) → EveryNode counted_asks (root_nodes root of) → EveryNode written_asks (root_nodes root of) → found_size (find_root env here of root) + 13 ≤ 44 * nodes_of (root_weight env.core of root)
   root_small env here of (fixed v nodes words) c w = let e = constant_small v here.temp in omega (arith, c, e)
   root_small env here of (variable id) c w = let e = valued_node env.core of in omega (arith, e)
   root_small env here of (object id) c w = absurd c
@@ -269,15 +270,15 @@ mutual
   root_small env here of eof c w = let e = valued_node env.core of in omega (arith, e)
   root_small env here of eoln c w = let e = valued_node env.core of in omega (arith, e)
 
-  steps_small : (env : Env) (here : Here) (of : TypeId) (ss : Steps) (implied : Bool) (n : ℕ) (f : Found) → AreCountedSteps ss → AreWrittenSteps implied ss → found_size f + 8 + spare implied ≤ 44 * n → found_size (find_steps env here of ss f) + 8 ≤ 44 * (n + nodes_of (steps_weight env.core ss))
-  steps_small env here of no_steps implied n f c w less = omega (arith, less)
-  steps_small env here of (steps action next others) implied n f c w less =
+  steps_small : (env : Env) (here : Here) (of : TypeId) (ss : Steps) (text implied : Bool) (n : ℕ) (f : Found) → EveryNode counted_asks (steps_nodes text ss) → AreApart implied ss → EveryNode written_asks (steps_nodes text ss) → found_size f + 8 + spare implied ≤ 44 * n → found_size (find_steps env here of ss f) + 8 ≤ 44 * (n + nodes_of (steps_weight env.core ss))
+  steps_small env here of no_steps text implied n f c m w less = omega (arith, less)
+  steps_small env here of (steps action next others) text implied n f c m w less =
       let a = nodes_of (action_weight env.core next action) in
-      let g = step_small env here of action next implied n f c.0 w.0 w.1 less in
-      let rest = steps_small env here next others (is_implied action) (n + a) (find_step env here of action next f) c.1 w.2 g in
+      let g = step_small env here of action next implied n f c.0 m.0 w.0 less in
+      let rest = steps_small env here next others (text_after text action) (is_implied action) (n + a) (find_step env here of action next f) c.1 m.1 w.1 g in
       omega (arith, rest)
 
-  step_small : (env : Env) (here : Here) (of : TypeId) (action : Doing) (to : TypeId) (implied : Bool) (n : ℕ) (f : Found) → IsCountedAction action → MayFollow implied action → IsWrittenAction action → found_size f + 8 + spare implied ≤ 44 * n → found_size (find_step env here of action to f) + 8 + spare (is_implied action) ≤ 44 * (n + nodes_of (action_weight env.core to action))
+  step_small : (env : Env) (here : Here) (of : TypeId) (action : Doing) (to : TypeId) (implied : Bool) (n : ℕ) (f : Found) → EveryNode counted_asks (action_nodes action) → MayFollow implied action → EveryNode written_asks (action_nodes action) → found_size f + 8 + spare implied ≤ 44 * n → found_size (find_step env here of action to f) + 8 + spare (is_implied action) ≤ 44 * (n + nodes_of (action_weight env.core to action))
   step_small env here of (convert k Implied) to true n f c m w less = absurd m
   step_small env here of (convert k Implied) to false n f c m w less =
       let o = own_small env of here f in
@@ -333,7 +334,7 @@ mutual
   step_small env here of (is class) to implied n f c m w less = let v = valued_node env.core to in omega (arith, v, less)
   step_small env here of (copied e e') to implied n f c m w less = let v = valued_node env.core to in omega (arith, v, less)
 
-  gather_small : (env : Env) (here : Here) (es : Elements) → AreCountedElements es → AreWrittenElements es → items_size (gather env here es) ≤ 44 * nodes_of (elements_weight env.core es)
+  gather_small : (env : Env) (here : Here) (es : Elements) → EveryNode counted_asks (elements_nodes es) → EveryNode written_asks (elements_nodes es) → items_size (gather env here es) ≤ 44 * nodes_of (elements_weight env.core es)
   gather_small env here no_elements c w = omega arith
   gather_small env here (elements e es) c w =
       let first = member_small env here e c.0 w.0 in
@@ -341,7 +342,7 @@ mutual
       let all = both_size (gather_one env here e) (then_do (act (combine Add here.temp here.temp (here.temp + 1))) (gather env here es)) in
       omega (arith, first, rest, all)
 
-  member_small : (env : Env) (here : Here) (m : Member) → IsCountedElement m → IsWrittenElement m → items_size (gather_one env here m) + 3 ≤ 44 * nodes_of (element_weight env.core m)
+  member_small : (env : Env) (here : Here) (m : Member) → EveryNode counted_asks (element_nodes m) → EveryNode written_asks (element_nodes m) → items_size (gather_one env here m) + 3 ≤ 44 * nodes_of (element_weight env.core m)
   member_small env here (one e) c w =
       let i = make_small env (past 1 here) e c w in
       let all = both_size (make env (past 1 here) e).items (only (act (lone (here.temp + 1) (here.temp + 1)))) in
@@ -352,7 +353,7 @@ mutual
       let all = three_size (make env (past 1 here) e).items (make env (past 2 here) e').items (only (act (span (here.temp + 1) (here.temp + 1) (here.temp + 2)))) in
       omega (arith, i, j, all)
 
-  pass_small : (env : Env) (here : Here) (as' : Arguments) → AreCountedArguments as' → AreWrittenArguments as' → items_size (pass env here as').items + givens_size (pass env here as').given ≤ 44 * nodes_of (arguments_weight env.core as')
+  pass_small : (env : Env) (here : Here) (as' : Arguments) → EveryNode counted_asks (arguments_nodes as') → EveryNode written_asks (arguments_nodes as') → items_size (pass env here as').items + givens_size (pass env here as').given ≤ 44 * nodes_of (arguments_weight env.core as')
   pass_small env here no_arguments c w = omega arith
   pass_small env here (arguments a others) c w =
       let first = pass_one env here a in
@@ -362,7 +363,7 @@ mutual
       let all = both_size first.items rest.items in
       omega (arith, f, r, all)
 
-  one_small : (env : Env) (here : Here) (a : Argument) → IsCountedArgument a → IsWrittenArgument a → items_size (pass_one env here a).items + given_size (pass_one env here a).given ≤ 44 * nodes_of (argument_weight env.core a)
+  one_small : (env : Env) (here : Here) (a : Argument) → EveryNode counted_asks (argument_nodes a) → EveryNode written_asks (argument_nodes a) → items_size (pass_one env here a).items + given_size (pass_one env here a).given ≤ 44 * nodes_of (argument_weight env.core a)
   one_small env here (value e) c w =
       let i = make_small env here e c w in
       let g = given_small (shape_of env.core (type_of e)) (type_of e) here in

@@ -14,8 +14,9 @@ use Rattle.op_core.specs.declared.program.Core.{Core}
 use Rattle.op_core.specs.declared.types.CoreType.TheVariants.{Array, Boolean, Char, Set}
 use Rattle.op_core.specs.declared.types.CoreType.{CoreType}
 use Rattle.op_core.specs.declared.types.IntegerKind.TheVariants.{Signed32}
-use Rattle.op_frames.specs.Counted.{IsCounted, IsCountedAmount, IsCountedItem, AreCountedItems, IsCountedBuiltIn, IsCountedStatement, AreCountedStatements, AreCountedBranches}
+use Rattle.op_frames.specs.Counted.{IsCounted, IsCountedAmount, IsCountedStatement, AreCountedStatements, counted_asks}
 use Rattle.op_meaning.specs.Actions.{load, store, copy, arithmetic, single as lone, combine, write_text}
+use Rattle.op_meaning.specs.Every.{EveryWork, branches_works, built_in_works, item_works, items_works}
 use Rattle.op_meaning.specs.Expressions.{Here, past, past_whole, Env, Now, ready, at_path, a_text, Found, found, whole_path, path_of, own, then_acts, element_step, converted, find, make}
 use Rattle.op_meaning.specs.Items.{act, choose, select, leave, halt, Items, none, ◌&◌, only, acts}
 use Rattle.op_meaning.specs.Paths.{with_step}
@@ -57,7 +58,7 @@ module _ (w : List ℕ → ℕ) (no_line : w line_feed ≡ 0) (g : Core) where
       let all = three_text w g f.items width (only (act (write_by (host env.core (type_at env.core of)) here.temp))) in
       omega (arith, all, said)
 
-  one_written : (env : Env) (here : Here) (o : Output) → IsCountedItem o → items_text w g (write_one env here o) ≤ total w (item_texts o)
+  one_written : (env : Env) (here : Here) (o : Output) → EveryWork counted_asks (item_works o) → items_text w g (write_one env here o) ≤ total w (item_texts o)
   one_written env here (plain e) c =
       let i = make_keeps w g env here e c in
       let v = value_keeps env here (type_of e) (make env here e) (no_width here) (make env here e).now refl in
@@ -69,7 +70,7 @@ module _ (w : List ℕ → ℕ) (no_line : w line_feed ≡ 0) (g : Core) where
       let both = total_join w (expression_texts e) (expression_texts width) in
       omega (arith, i, j, v, both)
 
-  all_written : (env : Env) (here : Here) (os : List Output) → AreCountedItems os → items_text w g (write_all env here os) ≤ total w (items_texts os)
+  all_written : (env : Env) (here : Here) (os : List Output) → EveryWork counted_asks (items_works os) → items_text w g (write_all env here os) ≤ total w (items_texts os)
   all_written env here [] c = omega arith
   all_written env here (o ∷ os) c =
       let first = one_written env here o c.0 in
@@ -129,7 +130,7 @@ module _ (w : List ℕ → ℕ) (no_line : w line_feed ≡ 0) (g : Core) where
       let all = three_text w g f.items (make env (past (f.used + 1) (past_whole here)) e).items (acts (lone (t + 1) (t + 1) ∷ load t Signed32 path ∷ combine o t t (t + 1) ∷ store path Signed32 t ∷ [])) in
       omega (arith, i, j, all)
 
-  built_in_keeps : (env : Env) (here : Here) (b : BuiltIn) → IsCountedBuiltIn b → items_text w g (done_built_in env here b) ≤ total w (built_in_texts b)
+  built_in_keeps : (env : Env) (here : Here) (b : BuiltIn) → EveryWork counted_asks (built_in_works b) → items_text w g (done_built_in env here b) ≤ total w (built_in_texts b)
   built_in_keeps env here (write items ends) c =
       let i = all_written env here items c in
       let l = line_keeps here ends in
@@ -270,7 +271,7 @@ module _ (w : List ℕ → ℕ) (no_line : w line_feed ≡ 0) (g : Core) where
         let both = total_join w (statement_texts s) (statements_texts ss) in
         omega (arith, first, rest, all, both)
 
-    branches_keeps : (env : Env) (here : Here) (bs : Branches) → AreCountedBranches bs → cases_text w g (cases_of env here bs) ≤ total w (branches_texts bs)
+    branches_keeps : (env : Env) (here : Here) (bs : Branches) → EveryWork counted_asks (branches_works bs) → cases_text w g (cases_of env here bs) ≤ total w (branches_texts bs)
     branches_keeps env here no_branches c = omega arith
     branches_keeps env here (branches labels s bs) c =
         let first = work_keeps env here s c.1 in

@@ -18,9 +18,10 @@ use Rattle.op_core.specs.declared.types.CoreType.TheVariants.{Array, Boolean, Ch
 use Rattle.op_core.specs.declared.types.IntegerKind.TheVariants.{Signed32}
 use Rattle.op_frames.proofs.ExpressionsWithin.{valued_node}
 use Rattle.op_frames.proofs.StatementsWithin.{counter_one}
-use Rattle.op_frames.specs.Counted.{IsCounted, IsCountedAmount, IsCountedItem, AreCountedItems, IsCountedBuiltIn, IsCountedStatement, AreCountedStatements, AreCountedBranches, AreCountedLabels}
+use Rattle.op_frames.specs.Counted.{IsCounted, IsCountedAmount, IsCountedStatement, AreCountedStatements, AreCountedLabels, counted_asks}
 use Rattle.op_meaning.specs.Actions.{load, store, copy, begin_with, arithmetic, single as lone, combine, write_text}
 use Rattle.op_meaning.specs.Charge.{nodes_of, expression_weight, item_weight, items_weight, built_in_weight, labels_weight, statement_weight, statements_weight, branches_weight}
+use Rattle.op_meaning.specs.Every.{EveryWork, branches_works, built_in_works, item_works, items_works}
 use Rattle.op_meaning.specs.Expressions.{Here, past, past_whole, Env, Now, ready, at_path, a_text, Found, found, whole_path, path_of, own, then_acts, element_step, converted, find, make}
 use Rattle.op_meaning.specs.Items.{act, choose, select, leave, halt, Items, none, ◌&◌, only, acts}
 use Rattle.op_meaning.specs.Paths.{with_step}
@@ -28,7 +29,7 @@ use Rattle.op_meaning.specs.Shapes.{Shape, single, composite, of_chars, of_eleme
 use Rattle.op_meaning.specs.Statements.{stored_by, result_path, at_variable, kind_of, write_by, write_by_now, no_width, write_one, write_all, line_end, sum_or_difference, counted_at, changed_set, done_built_in, store_variable, for_items, in_array, in_set, in_collection, in_turn, work_of, work_of_all, cases_of, first_items}
 use Rattle.op_sizes.proofs.ExpressionsSmall.{both_size, three_size, acts_size, path_small, own_small, then_size, converted_small, find_small, make_small}
 use Rattle.op_sizes.specs.Sizes.{action_size, items_size, cases_size}
-use Rattle.op_sizes.specs.Written.{IsWritten, IsWrittenItem, AreWrittenItems, IsWrittenBuiltIn, AreWrittenLabels, IsWrittenStatement, AreWrittenStatements, AreWrittenBranches}
+use Rattle.op_sizes.specs.Written.{IsWritten, AreWrittenLabels, IsWrittenStatement, AreWrittenStatements, written_asks}
 use Rattle.op_tree.specs.declared.operator.Operator.{Operator}
 use Rattle.op_tree.specs.declared.operator.Operator.TheVariants.{Add, Subtract}
 use Rattle.op_tree.specs.declared.statement.Direction.{Direction}
@@ -60,7 +61,7 @@ value_small env here of f width (at_path p) =
     let all = three_size f.items width (only (act (write_by (host env.core (type_at env.core of)) here.temp))) in
     omega (arith, all, w)
 
-one_written : (env : Env) (here : Here) (o : Output) → IsCountedItem o → IsWrittenItem o → items_size (write_one env here o) ≤ 44 * nodes_of (item_weight env.core o)
+one_written : (env : Env) (here : Here) (o : Output) → EveryWork counted_asks (item_works o) → EveryWork written_asks (item_works o) → items_size (write_one env here o) ≤ 44 * nodes_of (item_weight env.core o)
 one_written env here (plain e) c w =
     let i = make_small env here e c w in
     let v = value_small env here (type_of e) (make env here e) (no_width here) (make env here e).now in
@@ -71,7 +72,7 @@ one_written env here (padded e width) c w =
     let v = value_small env here (type_of e) (make env here e) (make env (past 1 here) width).items (make env here e).now in
     omega (arith, i, j, v)
 
-all_written : (env : Env) (here : Here) (os : List Output) → AreCountedItems os → AreWrittenItems os → items_size (write_all env here os) ≤ 44 * nodes_of (items_weight env.core os)
+all_written : (env : Env) (here : Here) (os : List Output) → EveryWork counted_asks (items_works os) → EveryWork written_asks (items_works os) → items_size (write_all env here os) ≤ 44 * nodes_of (items_weight env.core os)
 all_written env here [] c w = omega arith
 all_written env here (o ∷ os) c w =
     let first = one_written env here o c.0 w.0 in
@@ -129,7 +130,7 @@ change_small env here o s e c a w v =
     let all = three_size f.items (make env (past (f.used + 1) (past_whole here)) e).items (acts (lone (t + 1) (t + 1) ∷ load t Signed32 path ∷ combine o t t (t + 1) ∷ store path Signed32 t ∷ [])) in
     omega (arith, i, j, p, all)
 
-built_in_small : (env : Env) (here : Here) (b : BuiltIn) → IsCountedBuiltIn b → IsWrittenBuiltIn b → items_size (done_built_in env here b) ≤ 44 * nodes_of (built_in_weight env.core b)
+built_in_small : (env : Env) (here : Here) (b : BuiltIn) → EveryWork counted_asks (built_in_works b) → EveryWork written_asks (built_in_works b) → items_size (done_built_in env here b) ≤ 44 * nodes_of (built_in_weight env.core b)
 built_in_small env here (write items ends) c w =
     let i = all_written env here items c w in
     let l = line_small here ends in
@@ -269,7 +270,7 @@ mutual
       let all = both_size (work_of env here s) (work_of_all env here ss) in
       omega (arith, first, rest, all)
 
-  branches_small : (env : Env) (here : Here) (bs : Branches) → AreCountedBranches bs → AreWrittenBranches bs → cases_size (cases_of env here bs) ≤ 44 * nodes_of (branches_weight env.core bs)
+  branches_small : (env : Env) (here : Here) (bs : Branches) → EveryWork counted_asks (branches_works bs) → EveryWork written_asks (branches_works bs) → cases_size (cases_of env here bs) ≤ 44 * nodes_of (branches_weight env.core bs)
   branches_small env here no_branches c w = omega arith
   branches_small env here (branches labels s bs) c w =
       let l = labels_small labels c.0 w.0 in

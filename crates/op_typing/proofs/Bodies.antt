@@ -11,6 +11,7 @@ use Rattle.op_core.specs.declared.ids.TypeId.{TypeId}
 use Rattle.op_core.specs.declared.program.Core.{Core}
 use Rattle.op_core.specs.declared.routine.Routine.{Routine}
 use Rattle.op_core.specs.declared.statement.Label.{Label}
+use Rattle.op_meaning.specs.Every.{EveryWork, branches_works}
 use Rattle.op_meaning.specs.Expressions.{Here, found, at_path, find, make, past, past_whole, path_of}
 use Rattle.op_meaning.specs.Items.{none, ◌&◌, only, choose, select, halt, throw, leave}
 use Rattle.op_meaning.specs.Shapes.{shape_of}
@@ -23,7 +24,7 @@ use Rattle.op_typing.proofs.Rows.{all_then, each_row, if_some, some_and, some_th
 use Rattle.op_typing.proofs.Statements.{built_in_typed}
 use Rattle.op_typing.proofs.Storing.{place_state, result_typed, stored_typed}
 use Rattle.op_typing.proofs.Types.{IsWord, one_back_solid, value_word}
-use Rattle.op_typing.specs.Simple.{AreSimpleBranches, AreSimpleStatements, IsSimple, IsSimpleProgram, IsSimpleRoutine, IsSimpleStatement, IsSolidType}
+use Rattle.op_typing.specs.Simple.{AreSimpleStatements, IsSimple, IsSimpleProgram, IsSimpleRoutine, IsSimpleStatement, IsSolidType, simple_asks}
 use Rattle.op_typing.specs.Typed.{AreTyped, AreTypedCases, AreWords, PathTo}
 
 module _ (core : Core) (sound : IsSound core) (simple : IsSimpleProgram core) (r : ℕ) (x : Routine) (is_there : slice_get core.routines r ≡ Some x) where
@@ -66,7 +67,7 @@ module _ (core : Core) (sound : IsSound core) (simple : IsSimpleProgram core) (r
         both core r (make (env_at core r) here e).items (only (select here.temp (cases_of (env_at core r) here bs) (work_of_all (env_at core r) here ss))) (made e here h.0.0 p.0)
         ((branches_typed bs around here (type_of e) same h.1 p.1, statements_typed ss around here same h.2 p.2), tt)
     statement_typed (while_do e s) around here same h p = ((made e here h.0.0 p.0, tt, statement_typed s (in_loop around) here same h.1 p.1), tt)
-    statement_typed (repeat_until ss e) around here same h p = ((made e here h.1.0 p.1, tt, statements_typed ss (in_loop around) here same h.0 p.0), tt)
+    statement_typed (repeat_until ss e) around here same h p = ((made e here h.1.0 p.0, tt, statements_typed ss (in_loop around) here same h.0 p.1), tt)
     statement_typed (for_to id e direction f s) around here same h p =
         let (v, is_row, bounds) = some_and (slice_get core.variables id.0) (λ v. Bounds core v.of (type_at core v.of) (type_of e)) h.0.1 in
         let (kind, is_single) = bounds_single core v.of (type_of e) bounds in
@@ -106,6 +107,6 @@ module _ (core : Core) (sound : IsSound core) (simple : IsSimpleProgram core) (r
     statements_typed (statements s ss) around here same h p =
         both core r (work_of (env_at core r) here s) (work_of_all (env_at core r) here ss) (statement_typed s around here same h.0 p.0) (statements_typed ss around here same h.1 p.1)
 
-    branches_typed : (bs : Branches) (around : Around) (here : Here) (of : TypeId) → around.result ≡ x.result → AreBranches core (within core r) around of bs → AreSimpleBranches core bs → AreTypedCases core r (cases_of (env_at core r) here bs)
+    branches_typed : (bs : Branches) (around : Around) (here : Here) (of : TypeId) → around.result ≡ x.result → AreBranches core (within core r) around of bs → EveryWork (simple_asks core) (branches_works bs) → AreTypedCases core r (cases_of (env_at core r) here bs)
     branches_typed no_branches around here of same h p = tt
-    branches_typed (branches labels s bs) around here of same h p = (words_typed of labels h.0, statement_typed s around here same h.1 p.0, branches_typed bs around here of same h.2 p.1)
+    branches_typed (branches labels s bs) around here of same h p = (words_typed of labels h.0, statement_typed s around here same h.1 p.1, branches_typed bs around here of same h.2 p.2)

@@ -19,6 +19,7 @@ use Rattle.op_core.specs.declared.routine.Parameter.{Parameter}
 use Rattle.op_core.specs.declared.routine.Role.TheVariants.{Object as ObjectRole, Parameter as ParameterRole}
 use Rattle.op_core.specs.declared.routine.Routine.{Routine}
 use Rattle.op_meaning.specs.Actions.{combine, single as lone, span}
+use Rattle.op_meaning.specs.Every.{EveryNode, argument_nodes, arguments_nodes, element_nodes, elements_nodes, is_text, root_nodes, steps_nodes, text_after}
 use Rattle.op_meaning.specs.Expressions.{Here, Found, Now, find, find_root, find_step, find_steps, gather, gather_one, given_by, goes_on_at, make, of_constant, pass, pass_one, past, past_whole, path_of, receiver_by, receiver_of, result_of, second_here}
 use Rattle.op_meaning.specs.Items.{then_do, ◌&◌, only, act, enter}
 use Rattle.op_meaning.specs.Paths.{path_to, root_of}
@@ -31,7 +32,7 @@ use Rattle.op_typing.proofs.Founds.{FoundIs, IsOwn, NowIs, StateIs, any_own, app
 use Rattle.op_typing.proofs.Paths.{root_path, root_typed, temporary_path}
 use Rattle.op_typing.proofs.Rows.{each_row, not_true, some_and, some_then}
 use Rattle.op_typing.proofs.Types.{one_back_solid, set_word, solid_is, solid_small, value_word}
-use Rattle.op_typing.specs.Simple.{AreSimpleArguments, AreSimpleElements, AreSimpleSteps, IsSimple, IsSimpleArgument, IsSimpleElement, IsSimpleProgram, IsSimpleRoot, IsSimpleRoutine, IsSimpleStep, IsSolidType, is_text, text_after}
+use Rattle.op_typing.specs.Simple.{IsSimple, IsSimpleProgram, IsSimpleRoutine, IsSimpleStep, IsSolidType, simple_asks}
 use Rattle.op_typing.specs.Typed.{AreTyped, AreTypedGiven, IsComposite, IsSingle, IsTypedCall, IsTypedGiven, IsTypedReceiver, PathTo, RootIs}
 
 -- whether what comes out in the end is still a text that is written there
@@ -73,7 +74,7 @@ module _ (core : Core) (sound : IsSound core) (simple : IsSimpleProgram core) (r
       let (v, e, same) = some_and (slice_get core.variables id.0) (λ v. v.of ≡ of) h in
       root_path core r (root_of core r id) of (subst (λ of. RootIs core r (root_of core r id) of) same (root_typed core sound simple r x is_there id v sees e)) (solid_small core sound of solid)
 
-  constant_typed : (c : Const) (nodes words : ℕ) (of : TypeId) (t : ℕ) → Fits core c of → IsSimpleRoot core (constant c nodes words) of → FoundIs core r (is_text (constant c nodes words)) of (of_constant c t)
+  constant_typed : (c : Const) (nodes words : ℕ) (of : TypeId) (t : ℕ) → Fits core c of → EveryNode (simple_asks core) (root_nodes (constant c nodes words) of) → FoundIs core r (is_text (constant c nodes words)) of (of_constant c t)
   constant_typed (Ordinal n) nodes words of t h solid = ((value_word core sound of n h, tt), (solid, tt))
   constant_typed (SetOf es) nodes words of t h solid = ((set_word _, tt), (solid, tt))
   constant_typed (Text bytes) nodes words of t h short = (tt, (bytes, refl, short))
@@ -120,7 +121,7 @@ module _ (core : Core) (sound : IsSound core) (simple : IsSimpleProgram core) (r
         any_own core sound simple r (text_end (is_text root) others) (type_after of others) here (find_steps (env_at core r) here of others (find_root (env_at core r) here of root))
         (steps_typed others here (is_text root) of (find_root (env_at core r) here of root) h.1 s.1 (root_found root here of h.0 s.0))
 
-    root_found : (root : Root) (here : Here) (of : TypeId) → IsRoot core (within core r) root of → IsSimpleRoot core root of → FoundIs core r (is_text root) of (find_root (env_at core r) here of root)
+    root_found : (root : Root) (here : Here) (of : TypeId) → IsRoot core (within core r) root of → EveryNode (simple_asks core) (root_nodes root of) → FoundIs core r (is_text root) of (find_root (env_at core r) here of root)
     root_found (constant c nodes words) here of h s = constant_typed c nodes words of here.temp h s
     root_found (variable id) here of h s = (tt, (s, variable_typed id of h.0 h.1 s))
     root_found (object id) here of h s = (tt, (s, variable_typed id of h.0 (some_then (slice_get core.variables id.0) (λ v. (v.of ≡ of) × (v.role ≡ ObjectRole)) (λ v. v.of ≡ of) h.1 (λ v is. is.0)) s))
@@ -142,7 +143,7 @@ module _ (core : Core) (sound : IsSound core) (simple : IsSimpleProgram core) (r
     root_found eof here of h s = (tt, (s, tt))
     root_found eoln here of h s = (tt, (s, tt))
 
-    steps_typed : (others : Steps) (here : Here) (text : Bool) (of : TypeId) (f : Found) → AreSteps core (within core r) of others → AreSimpleSteps core text others → FoundIs core r text of f → FoundIs core r (text_end text others) (type_after of others) (find_steps (env_at core r) here of others f)
+    steps_typed : (others : Steps) (here : Here) (text : Bool) (of : TypeId) (f : Found) → AreSteps core (within core r) of others → EveryNode (simple_asks core) (steps_nodes text others) → FoundIs core r text of f → FoundIs core r (text_end text others) (type_after of others) (find_steps (env_at core r) here of others f)
     steps_typed no_steps here text of f h s k = k
     steps_typed (steps action next others) here text of f h s k = steps_typed others here (text_after text action) next (find_step (env_at core r) here of action next f) h.1 s.1 (step_typed action here text of next f h.0 s.0 k)
 
@@ -162,13 +163,13 @@ module _ (core : Core) (sound : IsSound core) (simple : IsSimpleProgram core) (r
     step_typed (apply function checked) here true of next f h s k = measure_found core sound simple r of next here f function checked k s.0 s.1
     step_typed _ here true of next f h s k = absurd s
 
-    gather_typed : (es : Elements) (here : Here) (base : TypeId) → AreElements core (within core r) base es → AreSimpleElements core es → AreTyped core r (gather (env_at core r) here es)
+    gather_typed : (es : Elements) (here : Here) (base : TypeId) → AreElements core (within core r) base es → EveryNode (simple_asks core) (elements_nodes es) → AreTyped core r (gather (env_at core r) here es)
     gather_typed no_elements here base h s = tt
     gather_typed (elements e es) here base h s =
         both core r (gather_one (env_at core r) here e) (then_do (act (combine Add here.temp here.temp (here.temp + 1))) (gather (env_at core r) here es))
         (element_typed e here base h.0 s.0) (tt, gather_typed es here base h.1 s.1)
 
-    element_typed : (e : Element) (here : Here) (base : TypeId) → IsElement core (within core r) base e → IsSimpleElement core e → AreTyped core r (gather_one (env_at core r) here e)
+    element_typed : (e : Element) (here : Here) (base : TypeId) → IsElement core (within core r) base e → EveryNode (simple_asks core) (element_nodes e) → AreTyped core r (gather_one (env_at core r) here e)
     element_typed (one_element e) here base h s =
         both core r (make (env_at core r) (past 1 here) e).items (only (act (lone (here.temp + 1) (here.temp + 1))))
         (make_typed e (past 1 here) (value_typed core (within core r) base e h).0 s).0 (tt, tt)
@@ -178,7 +179,7 @@ module _ (core : Core) (sound : IsSound core) (simple : IsSimpleProgram core) (r
         (both core r (make (env_at core r) (past 2 here) e').items (only (act (span (here.temp + 1) (here.temp + 1) (here.temp + 2))))
         (make_typed e' (past 2 here) (value_typed core (within core r) base e' h.1).0 s.1).0 (tt, tt))
 
-    pass_typed : (ps : List Parameter) (given : Arguments) (here : Here) → AreArguments core (within core r) ps given → AreSimpleArguments core given → AreSolid core ps → AreTyped core r (pass (env_at core r) here given).items × AreTypedGiven core r (pass (env_at core r) here given).given ps
+    pass_typed : (ps : List Parameter) (given : Arguments) (here : Here) → AreArguments core (within core r) ps given → EveryNode (simple_asks core) (arguments_nodes given) → AreSolid core ps → AreTyped core r (pass (env_at core r) here given).items × AreTypedGiven core r (pass (env_at core r) here given).given ps
     pass_typed [] no_arguments here h s solid = (tt, tt)
     pass_typed (p ∷ ps) (arguments a others) here h s solid =
         let first = argument_typed a here p h.0 s.0 (first_solid p ps solid) in
@@ -187,7 +188,7 @@ module _ (core : Core) (sound : IsSound core) (simple : IsSimpleProgram core) (r
     pass_typed [] (arguments a others) here h s solid = absurd h
     pass_typed (p ∷ ps) no_arguments here h s solid = absurd h
 
-    argument_typed : (a : Argument) (here : Here) (p : Parameter) → IsArgument core (within core r) p a → IsSimpleArgument core a → IsSolidType core p.of → AreTyped core r (pass_one (env_at core r) here a).items × IsTypedGiven core r (pass_one (env_at core r) here a).given p
+    argument_typed : (a : Argument) (here : Here) (p : Parameter) → IsArgument core (within core r) p a → EveryNode (simple_asks core) (argument_nodes a) → IsSolidType core p.of → AreTyped core r (pass_one (env_at core r) here a).items × IsTypedGiven core r (pass_one (env_at core r) here a).given p
     argument_typed (value e) here p h s solid =
         let typed = value_typed core (within core r) p.of e h.0 in
         let same = one_back_solid core (type_of e) p.of typed.1 solid in

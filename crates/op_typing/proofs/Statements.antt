@@ -17,6 +17,7 @@ use Rattle.op_core.specs.declared.types.CoreType.{CoreType}
 use Rattle.op_core.specs.declared.types.CoreType.TheVariants.{Integer, Boolean, Char, Enumeration, Subrange, Set}
 use Rattle.op_core.specs.declared.types.IntegerKind.TheVariants.{Signed32}
 use Rattle.op_meaning.specs.Actions.{arithmetic, combine, load, single as lone, store, write_text}
+use Rattle.op_meaning.specs.Every.{EveryWork, built_in_works, item_works, items_works}
 use Rattle.op_meaning.specs.Expressions.{Here, Found, Now, ready, at_path, a_text, converted, find, make, own, past, past_whole, path_of}
 use Rattle.op_meaning.specs.Items.{Items, ◌&◌, only, acts, act, free}
 use Rattle.op_meaning.specs.Statements.{changed_set, counted_at, done_built_in, kind_of, line_end, no_width, sum_or_difference, write_all, write_by, write_by_now, write_one}
@@ -30,7 +31,7 @@ use Rattle.op_typing.proofs.Founds.{FoundIs, IsOwn, env_at}
 use Rattle.op_typing.proofs.Rows.{each_row}
 use Rattle.op_typing.proofs.Storing.{kind_is}
 use Rattle.op_typing.proofs.Types.{ordinal_single, set_single}
-use Rattle.op_typing.specs.Simple.{AreSimpleItems, IsSimple, IsSimpleBuiltIn, IsSimpleItem, IsSimpleProgram, is_solid}
+use Rattle.op_typing.specs.Simple.{IsSimple, IsSimpleProgram, is_solid, simple_asks}
 use Rattle.op_typing.specs.Typed.{AreTyped, IsShortText, IsTypedAction}
 
 -- ---- types of what counts
@@ -68,7 +69,7 @@ module _ (core : Core) (sound : IsSound core) (simple : IsSimpleProgram core) (r
   no_width_typed : (here : Here) → AreTyped core r (no_width here)
   no_width_typed here = (omega (arith, ints), tt)
 
-  one_typed : (o : Output) (here : Here) → IsItem core (within core r) o → IsSimpleItem core o → AreTyped core r (write_one (env_at core r) here o)
+  one_typed : (o : Output) (here : Here) → IsItem core (within core r) o → EveryWork (simple_asks core) (item_works o) → AreTyped core r (write_one (env_at core r) here o)
   one_typed (plain e) here h s =
       let m = make_typed core sound simple r x is_there e here h.0 s in
       written_typed here (type_of e) (make (env_at core r) here e) (no_width here) (make (env_at core r) here e).now m.0 (no_width_typed here) m.1
@@ -77,12 +78,12 @@ module _ (core : Core) (sound : IsSound core) (simple : IsSimpleProgram core) (r
       let n = make_typed core sound simple r x is_there w (past 1 here) h.1.0 s.1 in
       written_typed here (type_of e) (make (env_at core r) here e) (make (env_at core r) (past 1 here) w).items (make (env_at core r) here e).now m.0 n.0 m.1
 
-  write_typed : (items : List Output) (here : Here) → All (IsItem core (within core r)) items → AreSimpleItems core items → AreTyped core r (write_all (env_at core r) here items)
+  write_typed : (items : List Output) (here : Here) → All (IsItem core (within core r)) items → EveryWork (simple_asks core) (items_works items) → AreTyped core r (write_all (env_at core r) here items)
   write_typed [] here h s = tt
   write_typed (o ∷ os) here h s =
       both core r (write_one (env_at core r) here o) (write_all (env_at core r) here os)
-      (one_typed o here (each_row (IsItem core (within core r)) (o ∷ os) 0 o h refl) (each_row (IsSimpleItem core) (o ∷ os) 0 o s refl))
-      (write_typed os here (All-drop (IsItem core (within core r)) 1 (o ∷ os) h) (All-drop (IsSimpleItem core) 1 (o ∷ os) s))
+      (one_typed o here (each_row (IsItem core (within core r)) (o ∷ os) 0 o h refl) s.0)
+      (write_typed os here (All-drop (IsItem core (within core r)) 1 (o ∷ os) h) s.1)
 
   end_typed : (here : Here) (ends : Bool) → AreTyped core r (line_end here ends)
   end_typed here false = tt
@@ -124,7 +125,7 @@ module _ (core : Core) (sound : IsSound core) (simple : IsSimpleProgram core) (r
       let f = find (env_at core r) here s in
       changed_typed here o s e f h.0.0.1 (find_typed core sound simple r x is_there s here h.0.0.0 p) (make_typed core sound simple r x is_there e (past (f.used + 1) (past_whole here)) h.1 q).0
 
-  pub built_in_typed : (b : BuiltIn) (here : Here) → IsBuiltIn core (within core r) b → IsSimpleBuiltIn core b → AreTyped core r (done_built_in (env_at core r) here b)
+  pub built_in_typed : (b : BuiltIn) (here : Here) → IsBuiltIn core (within core r) b → EveryWork (simple_asks core) (built_in_works b) → AreTyped core r (done_built_in (env_at core r) here b)
   built_in_typed (write items ends) here h s = both core r (write_all (env_at core r) here items) (line_end here ends) (write_typed items here h s) (end_typed here ends)
   built_in_typed (count d target amount checked) here h s =
       let f = find (env_at core r) here target.place in

@@ -26,6 +26,7 @@ use Rattle.op_core.specs.declared.types.CoreType.TheVariants.{String, Set, Recor
 use Rattle.op_core.specs.declared.types.IntegerKind.{IntegerKind}
 use Rattle.op_core.specs.declared.types.IntegerKind.TheVariants.{Signed32}
 use Rattle.op_meaning.specs.Actions.{store, copy as copied}
+use Rattle.op_meaning.specs.Every.{is_text}
 use Rattle.op_meaning.specs.Expressions.{Here, Found, path_of, whole_path}
 use Rattle.op_meaning.specs.Items.{◌&◌, only, act}
 use Rattle.op_meaning.specs.Paths.{in_local}
@@ -37,7 +38,7 @@ use Rattle.op_typing.proofs.Founds.{FoundIs, env_at}
 use Rattle.op_typing.proofs.Paths.{has_rows, root_path, rows_of, temporary_path}
 use Rattle.op_typing.proofs.Rows.{each_row, not_true, of_some, row_low}
 use Rattle.op_typing.proofs.Types.{one_back_solid, one_shape, ordinal_single, set_single, solid_small}
-use Rattle.op_typing.specs.Simple.{IsSimpleProgram, IsSimpleRoutine, IsSolidType, is_solid, is_text}
+use Rattle.op_typing.specs.Simple.{IsSimpleProgram, IsSimpleRoutine, IsSolidType, is_solid}
 use Rattle.op_typing.specs.Typed.{AreTyped, HasVariable, IsComposite, IsSingle, IsTypedAction, OwnValue, PathTo}
 
 -- ---- a text that is written there is no place

@@ -1,13 +1,13 @@
 -- Programs without strings, dynamic and open arrays, classes and interfaces: their tables, and the trees of their bodies. What such a
 -- program works on are numbers, sets, records and arrays with bounds; of a text that is written in it a Char, its length and its bounds
 -- are asked for, and it is written. (Free Pascal Reference Guide, "Types" and "Expressions".)
-use Rattle.std.specs.Prelude.{◌≡◌, ◌<◌, ◌^◌, Bool, true, false, List, Option, Some, None, IfSome}
+use Rattle.std.specs.Prelude.{◌≡◌, ◌<◌, ◌^◌, Bool, true, false, Option, Some, None, IfSome}
 use Rattle.std.specs.List.{All}
-use Rattle.op_core.specs.Expression.{Expression, expression, Root, constant, variable, object, call, construct, set, eof, eoln, Steps, no_steps, steps, Action, convert, bracket, field, index, method, prefixed, operate, is, apply, copy, Elements, no_elements, elements, Element, one, range, Arguments, no_arguments, arguments, Argument, value, place, array, listed}
+use Rattle.op_core.specs.Expression.{Expression, Root, constant, variable, object, call, construct, set, eof, eoln, Action, convert, bracket, field, index, method, prefixed, operate, is, apply, copy, Argument, value, place, array, listed}
 use Rattle.op_core.specs.Members.{There}
 use Rattle.op_core.specs.Sizes.{type_at, range_of, values_of}
 use Rattle.op_core.specs.Sound.{Each}
-use Rattle.op_core.specs.Statement.{Item, plain, padded, BuiltIn, write, read, count, set_length, include, exclude, val, str, free, destroy, Statement, empty, block, if_then, if_else, case_of, while_do, repeat_until, for_to, for_in, try_finally, try_on, try_on_else, raise, reraise, call as call_statement, assign, exit, exit_with, break, continue, halt, built_in, Statements, no_statements, statements, Branches, no_branches, branches, stmts_of}
+use Rattle.op_core.specs.Statement.{Statement, Statements, stmts_of}
 use Rattle.op_core.specs.declared.constant.Const.{Const}
 use Rattle.op_core.specs.declared.constant.Const.TheVariants.{Ordinal, Text, Set as SetOf, Nil as NilOf}
 use Rattle.op_core.specs.declared.ids.RoutineId.{RoutineId}
@@ -20,6 +20,7 @@ use Rattle.op_core.specs.declared.routine.Owner.TheVariants.{Unit as OfUnit}
 use Rattle.op_core.specs.declared.routine.Routine.{Routine}
 use Rattle.op_core.specs.declared.types.CoreType.{CoreType}
 use Rattle.op_core.specs.declared.types.CoreType.TheVariants.{String, Array, DynamicArray, OpenArray, Class, Interface, Nil, Broken}
+use Rattle.op_meaning.specs.Every.{Asks, EveryNode, EveryWork, Node, action_nodes, at_argument, at_construct, at_copy, at_end, at_handlers, at_input, at_labels, at_method, at_raise, at_root, at_step, at_steps, at_strings, expression_nodes, statement_works, statements_works}
 use Rattle.op_meaning.specs.Shapes.{is_reference}
 use Rattle.op_typing.specs.Typed.{IsShortText}
 
@@ -40,16 +41,7 @@ is_solid (Some t) = true
 abbrev pub IsSolidType : Core → TypeId → Type 0
 IsSolidType core of = is_solid (type_at core of) ≡ true
 
--- ---- expressions
-
-abbrev pub is_text : Root → Bool
-is_text (constant (Text bytes) nodes words) = true
-is_text _ = false
-
--- whether what comes out of a step is still a text that is written there
-abbrev pub text_after : Bool → Action → Bool
-text_after true bracket = true
-text_after _ _ = false
+-- ---- nodes of bodies
 
 -- what is asked of a text that is written there
 abbrev pub asks_text : Function → Bool
@@ -64,118 +56,76 @@ IsSimpleConstant core (Text bytes) of = IsShortText bytes
 IsSimpleConstant core (SetOf members) of = IsSolidType core of
 IsSimpleConstant core NilOf of = IsSolidType core of
 
--- The type of each part that comes out is solid, but of a text that is written there.
-abbrev mutual
-  pub IsSimple : Core → Expression → Type 0
-  IsSimple core (expression root of others) = IsSimpleRoot core root of × AreSimpleSteps core (is_text root) others
+-- of what an expression begins with, of the type
+abbrev pub SimpleRoot : Core → Root → TypeId → Type 0 → Type 0
+SimpleRoot core (constant v nodes words) of Parts = IsSimpleConstant core v of
+SimpleRoot core (variable id) of Parts = IsSolidType core of
+SimpleRoot core (object id) of Parts = IsSolidType core of
+SimpleRoot core (call id given) of Parts = IsSolidType core of × Parts
+SimpleRoot core (construct c id given) of Parts = ⊥
+SimpleRoot core (set es) of Parts = IsSolidType core of × Parts
+SimpleRoot core eof of Parts = IsSolidType core of
+SimpleRoot core eoln of Parts = IsSolidType core of
 
-  pub IsSimpleRoot : Core → Root → TypeId → Type 0
-  IsSimpleRoot core (constant v nodes words) of = IsSimpleConstant core v of
-  IsSimpleRoot core (variable id) of = IsSolidType core of
-  IsSimpleRoot core (object id) of = IsSolidType core of
-  IsSimpleRoot core (call id given) of = IsSolidType core of × AreSimpleArguments core given
-  IsSimpleRoot core (construct c id given) of = ⊥
-  IsSimpleRoot core (set es) of = IsSolidType core of × AreSimpleElements core es
-  IsSimpleRoot core eof of = IsSolidType core of
-  IsSimpleRoot core eoln of = IsSolidType core of
+-- of a step, behind a text that is written there, and behind any other value or place
+abbrev pub SimpleStep : Core → Bool → Action → TypeId → Type 0 → Type 0
+SimpleStep core true (convert conversion origin) next Parts = ⊥
+SimpleStep core true bracket next Parts = Unit {0}
+SimpleStep core true (field id) next Parts = ⊥
+SimpleStep core true (index e) next Parts = Parts × IsSolidType core next
+SimpleStep core true (method id dispatch given) next Parts = ⊥
+SimpleStep core true (prefixed operator checked) next Parts = ⊥
+SimpleStep core true (operate operator checked e) next Parts = ⊥
+SimpleStep core true (is class) next Parts = ⊥
+SimpleStep core true (apply function checked) next Parts = (asks_text function ≡ true) × IsSolidType core next
+SimpleStep core true (copy e e') next Parts = ⊥
+SimpleStep core false (convert conversion origin) next Parts = IsSolidType core next
+SimpleStep core false bracket next Parts = IsSolidType core next
+SimpleStep core false (field id) next Parts = IsSolidType core next
+SimpleStep core false (index e) next Parts = Parts × IsSolidType core next
+SimpleStep core false (method id dispatch given) next Parts = ⊥
+SimpleStep core false (prefixed operator checked) next Parts = IsSolidType core next
+SimpleStep core false (operate operator checked e) next Parts = Parts × IsSolidType core next
+SimpleStep core false (is class) next Parts = IsSolidType core next
+SimpleStep core false (apply function checked) next Parts = IsSolidType core next
+SimpleStep core false (copy e e') next Parts = IsSolidType core next
 
-  pub AreSimpleSteps : Core → Bool → Steps → Type 0
-  AreSimpleSteps core text no_steps = Unit {0}
-  AreSimpleSteps core text (steps action next others) = IsSimpleStep core text action next × AreSimpleSteps core (text_after text action) others
+abbrev pub SimpleArgument : Argument → Type 0 → Type 0
+SimpleArgument (value e) Parts = Parts
+SimpleArgument (place e) Parts = Parts
+SimpleArgument (array e) Parts = ⊥
+SimpleArgument (listed of es) Parts = ⊥
 
-  pub IsSimpleStep : Core → Bool → Action → TypeId → Type 0
-  IsSimpleStep core true (convert conversion origin) next = ⊥
-  IsSimpleStep core true bracket next = Unit {0}
-  IsSimpleStep core true (field id) next = ⊥
-  IsSimpleStep core true (index e) next = IsSimple core e × IsSolidType core next
-  IsSimpleStep core true (method id dispatch given) next = ⊥
-  IsSimpleStep core true (prefixed operator checked) next = ⊥
-  IsSimpleStep core true (operate operator checked e) next = ⊥
-  IsSimpleStep core true (is class) next = ⊥
-  IsSimpleStep core true (apply function checked) next = (asks_text function ≡ true) × IsSolidType core next
-  IsSimpleStep core true (copy e e') next = ⊥
-  IsSimpleStep core false (convert conversion origin) next = IsSolidType core next
-  IsSimpleStep core false bracket next = IsSolidType core next
-  IsSimpleStep core false (field id) next = IsSolidType core next
-  IsSimpleStep core false (index e) next = IsSimple core e × IsSolidType core next
-  IsSimpleStep core false (method id dispatch given) next = ⊥
-  IsSimpleStep core false (prefixed operator checked) next = IsSolidType core next
-  IsSimpleStep core false (operate operator checked e) next = IsSimple core e × IsSolidType core next
-  IsSimpleStep core false (is class) next = IsSolidType core next
-  IsSimpleStep core false (apply function checked) next = IsSolidType core next
-  IsSimpleStep core false (copy e e') next = IsSolidType core next
+-- The type of each part that comes out is solid, but of a text that is written there. Statements that have no code yet are not asked.
+abbrev pub SimpleNode : Core → Node → Type 0 → Type 0
+SimpleNode core (at_root root of) Parts = SimpleRoot core root of Parts
+SimpleNode core (at_steps others) Parts = Parts
+SimpleNode core (at_step text action next) Parts = SimpleStep core text action next Parts
+SimpleNode core (at_argument a) Parts = SimpleArgument a Parts
+SimpleNode core at_construct Parts = Parts
+SimpleNode core at_method Parts = Parts
+SimpleNode core at_copy Parts = Unit {0}
+SimpleNode core at_input Parts = Unit {0}
+SimpleNode core at_strings Parts = Unit {0}
+SimpleNode core at_end Parts = Parts
+SimpleNode core at_handlers Parts = Unit {0}
+SimpleNode core at_raise Parts = Parts
+SimpleNode core (at_labels labels) Parts = Parts
 
-  pub AreSimpleElements : Core → Elements → Type 0
-  AreSimpleElements core no_elements = Unit {0}
-  AreSimpleElements core (elements e es) = IsSimpleElement core e × AreSimpleElements core es
+abbrev pub simple_asks : Core → Asks
+simple_asks core = record { of_node = SimpleNode core; of_amount = λ e Parts. Parts }
 
-  pub IsSimpleElement : Core → Element → Type 0
-  IsSimpleElement core (one e) = IsSimple core e
-  IsSimpleElement core (range e e') = IsSimple core e × IsSimple core e'
+abbrev pub IsSimple : Core → Expression → Type 0
+IsSimple core e = EveryNode (simple_asks core) (expression_nodes e)
 
-  pub AreSimpleArguments : Core → Arguments → Type 0
-  AreSimpleArguments core no_arguments = Unit {0}
-  AreSimpleArguments core (arguments a others) = IsSimpleArgument core a × AreSimpleArguments core others
+abbrev pub IsSimpleStep : Core → Bool → Action → TypeId → Type 0
+IsSimpleStep core text action next = SimpleStep core text action next (EveryNode (simple_asks core) (action_nodes action))
 
-  pub IsSimpleArgument : Core → Argument → Type 0
-  IsSimpleArgument core (value e) = IsSimple core e
-  IsSimpleArgument core (place e) = IsSimple core e
-  IsSimpleArgument core (array e) = ⊥
-  IsSimpleArgument core (listed of es) = ⊥
+abbrev pub IsSimpleStatement : Core → Statement → Type 0
+IsSimpleStatement core s = EveryWork (simple_asks core) (statement_works s)
 
--- ---- statements; those that have no code yet are not asked
-
-abbrev pub IsSimpleItem : Core → Item → Type 0
-IsSimpleItem core (plain e) = IsSimple core e
-IsSimpleItem core (padded e width) = IsSimple core e × IsSimple core width
-
-abbrev pub AreSimpleItems : Core → List Item → Type 0
-AreSimpleItems core items = All (IsSimpleItem core) items
-
-abbrev pub IsSimpleBuiltIn : Core → BuiltIn → Type 0
-IsSimpleBuiltIn core (write items ends_line) = AreSimpleItems core items
-IsSimpleBuiltIn core (read targets ends_line) = Unit {0}
-IsSimpleBuiltIn core (count direction target amount checked) = IsSimple core target.place × IsSimple core amount
-IsSimpleBuiltIn core (set_length target size) = Unit {0}
-IsSimpleBuiltIn core (include s e) = IsSimple core s × IsSimple core e
-IsSimpleBuiltIn core (exclude s e) = IsSimple core s × IsSimple core e
-IsSimpleBuiltIn core (val e target code) = Unit {0}
-IsSimpleBuiltIn core (str item target) = Unit {0}
-IsSimpleBuiltIn core (free e empties) = IsSimple core e
-IsSimpleBuiltIn core (destroy e) = IsSimple core e
-
-abbrev mutual
-  pub IsSimpleStatement : Core → Statement → Type 0
-  IsSimpleStatement core empty = Unit {0}
-  IsSimpleStatement core (block ss) = AreSimpleStatements core ss
-  IsSimpleStatement core (if_then e s) = IsSimple core e × IsSimpleStatement core s
-  IsSimpleStatement core (if_else e s t) = IsSimple core e × IsSimpleStatement core s × IsSimpleStatement core t
-  IsSimpleStatement core (case_of e bs ss) = IsSimple core e × AreSimpleBranches core bs × AreSimpleStatements core ss
-  IsSimpleStatement core (while_do e s) = IsSimple core e × IsSimpleStatement core s
-  IsSimpleStatement core (repeat_until ss e) = AreSimpleStatements core ss × IsSimple core e
-  IsSimpleStatement core (for_to id e direction f s) = IsSimple core e × IsSimple core f × IsSimpleStatement core s
-  IsSimpleStatement core (for_in id store e s) = IsSimple core e × IsSimpleStatement core s
-  IsSimpleStatement core (try_finally ss ts) = AreSimpleStatements core ss × AreSimpleStatements core ts
-  IsSimpleStatement core (try_on ss hs) = Unit {0}
-  IsSimpleStatement core (try_on_else ss hs ts) = Unit {0}
-  IsSimpleStatement core (raise e) = IsSimple core e
-  IsSimpleStatement core reraise = Unit {0}
-  IsSimpleStatement core (call_statement e) = IsSimple core e
-  IsSimpleStatement core (assign target e) = IsSimple core target × IsSimple core e
-  IsSimpleStatement core exit = Unit {0}
-  IsSimpleStatement core (exit_with e) = IsSimple core e
-  IsSimpleStatement core break = Unit {0}
-  IsSimpleStatement core continue = Unit {0}
-  IsSimpleStatement core (halt e) = IsSimple core e
-  IsSimpleStatement core (built_in action) = IsSimpleBuiltIn core action
-
-  pub AreSimpleStatements : Core → Statements → Type 0
-  AreSimpleStatements core no_statements = Unit {0}
-  AreSimpleStatements core (statements s ss) = IsSimpleStatement core s × AreSimpleStatements core ss
-
-  pub AreSimpleBranches : Core → Branches → Type 0
-  AreSimpleBranches core no_branches = Unit {0}
-  AreSimpleBranches core (branches labels s bs) = IsSimpleStatement core s × AreSimpleBranches core bs
+abbrev pub AreSimpleStatements : Core → Statements → Type 0
+AreSimpleStatements core ss = EveryWork (simple_asks core) (statements_works ss)
 
 -- ---- programs
 

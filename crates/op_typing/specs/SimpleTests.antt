@@ -1,9 +1,9 @@
 -- A test of whether a program is without strings, dynamic and open arrays, classes and interfaces.
 use Rattle.std.specs.Prelude.{◌≡◌, ◌^◌, ℕ, Bool, true, false, not, ◌&&◌, ◌||◌, List, Option, Some, None, length, nat_lt, slice_get}
 use Rattle.std.specs.List.{list_all}
-use Rattle.op_core.specs.Expression.{Expression, expression, Root, constant, variable, object, call, construct, set, eof, eoln, Steps, no_steps, steps, Action, convert, bracket, field, index, method, prefixed, operate, is, apply, copy, Elements, no_elements, elements, Element, one, range, Arguments, no_arguments, arguments, Argument, value, place, array, listed}
+use Rattle.op_core.specs.Expression.{Expression, Root, constant, variable, object, call, construct, set, eof, eoln, Action, convert, bracket, field, index, method, prefixed, operate, is, apply, copy, Argument, value, place, array, listed}
 use Rattle.op_core.specs.Sizes.{type_at, range_of, values_of}
-use Rattle.op_core.specs.Statement.{Item, plain, padded, BuiltIn, write, read, count, set_length, include, exclude, val, str, free, destroy, Statement, empty, block, if_then, if_else, case_of, while_do, repeat_until, for_to, for_in, try_finally, try_on, try_on_else, raise, reraise, call as call_statement, assign, exit, exit_with, break, continue, halt, built_in, Statements, no_statements, statements, Branches, no_branches, branches, stmts_of}
+use Rattle.op_core.specs.Statement.{Statements, stmts_of}
 use Rattle.op_core.specs.declared.constant.Const.{Const}
 use Rattle.op_core.specs.declared.constant.Const.TheVariants.{Ordinal, Text, Set, Nil}
 use Rattle.op_core.specs.declared.ids.RoutineId.{RoutineId}
@@ -18,8 +18,9 @@ use Rattle.op_core.specs.declared.routine.Routine.{Routine}
 use Rattle.op_core.specs.declared.routine.Variable.{Variable}
 use Rattle.op_core.specs.declared.types.CoreType.{CoreType}
 use Rattle.op_core.specs.declared.types.CoreType.TheVariants.{Array}
+use Rattle.op_meaning.specs.Every.{Node, Tests, at_argument, at_construct, at_copy, at_end, at_handlers, at_input, at_labels, at_method, at_raise, at_root, at_step, at_steps, at_strings, expression_nodes, passes, passes_in, statements_works}
 use Rattle.op_meaning.specs.Shapes.{is_reference}
-use Rattle.op_typing.specs.Simple.{IsSimpleProgram, asks_text, is_solid, is_text, text_after}
+use Rattle.op_typing.specs.Simple.{IsSimpleProgram, asks_text, is_solid}
 
 abbrev pub is_short_text : List ℕ → Bool
 is_short_text text = nat_lt (length text) (2 ^ 31) && list_all (λ b. nat_lt b 256) text
@@ -31,7 +32,7 @@ is_none (Some a) = false
 abbrev pub is_solid_type : Core → TypeId → Bool
 is_solid_type core of = is_solid (type_at core of)
 
--- ---- expressions
+-- ---- nodes
 
 abbrev pub is_simple_constant : Core → Const → TypeId → Bool
 is_simple_constant core (Ordinal n) of = is_solid_type core of
@@ -39,114 +40,67 @@ is_simple_constant core (Text bytes) of = is_short_text bytes
 is_simple_constant core (Set members) of = is_solid_type core of
 is_simple_constant core Nil of = is_solid_type core of
 
-abbrev mutual
-  pub is_simple : Core → Expression → Bool
-  is_simple core (expression root of others) = is_simple_root core root of && are_simple_steps core (is_text root) others
+abbrev pub is_simple_root : Core → Root → TypeId → Bool → Bool
+is_simple_root core (constant v nodes words) of parts = is_simple_constant core v of
+is_simple_root core (variable id) of parts = is_solid_type core of
+is_simple_root core (object id) of parts = is_solid_type core of
+is_simple_root core (call id given) of parts = is_solid_type core of && parts
+is_simple_root core (construct c id given) of parts = false
+is_simple_root core (set es) of parts = is_solid_type core of && parts
+is_simple_root core eof of parts = is_solid_type core of
+is_simple_root core eoln of parts = is_solid_type core of
 
-  pub is_simple_root : Core → Root → TypeId → Bool
-  is_simple_root core (constant v nodes words) of = is_simple_constant core v of
-  is_simple_root core (variable id) of = is_solid_type core of
-  is_simple_root core (object id) of = is_solid_type core of
-  is_simple_root core (call id given) of = is_solid_type core of && are_simple_arguments core given
-  is_simple_root core (construct c id given) of = false
-  is_simple_root core (set es) of = is_solid_type core of && are_simple_elements core es
-  is_simple_root core eof of = is_solid_type core of
-  is_simple_root core eoln of = is_solid_type core of
+abbrev pub is_simple_step : Core → Bool → Action → TypeId → Bool → Bool
+is_simple_step core true (convert conversion origin) next parts = false
+is_simple_step core true bracket next parts = true
+is_simple_step core true (field id) next parts = false
+is_simple_step core true (index e) next parts = parts && is_solid_type core next
+is_simple_step core true (method id dispatch given) next parts = false
+is_simple_step core true (prefixed operator checked) next parts = false
+is_simple_step core true (operate operator checked e) next parts = false
+is_simple_step core true (is class) next parts = false
+is_simple_step core true (apply function checked) next parts = asks_text function && is_solid_type core next
+is_simple_step core true (copy e e') next parts = false
+is_simple_step core false (convert conversion origin) next parts = is_solid_type core next
+is_simple_step core false bracket next parts = is_solid_type core next
+is_simple_step core false (field id) next parts = is_solid_type core next
+is_simple_step core false (index e) next parts = parts && is_solid_type core next
+is_simple_step core false (method id dispatch given) next parts = false
+is_simple_step core false (prefixed operator checked) next parts = is_solid_type core next
+is_simple_step core false (operate operator checked e) next parts = parts && is_solid_type core next
+is_simple_step core false (is class) next parts = is_solid_type core next
+is_simple_step core false (apply function checked) next parts = is_solid_type core next
+is_simple_step core false (copy e e') next parts = is_solid_type core next
 
-  pub are_simple_steps : Core → Bool → Steps → Bool
-  are_simple_steps core text no_steps = true
-  are_simple_steps core text (steps action next others) = is_simple_step core text action next && are_simple_steps core (text_after text action) others
+abbrev pub is_simple_argument : Argument → Bool → Bool
+is_simple_argument (value e) parts = parts
+is_simple_argument (place e) parts = parts
+is_simple_argument (array e) parts = false
+is_simple_argument (listed of es) parts = false
 
-  pub is_simple_step : Core → Bool → Action → TypeId → Bool
-  is_simple_step core true (convert conversion origin) next = false
-  is_simple_step core true bracket next = true
-  is_simple_step core true (field id) next = false
-  is_simple_step core true (index e) next = is_simple core e && is_solid_type core next
-  is_simple_step core true (method id dispatch given) next = false
-  is_simple_step core true (prefixed operator checked) next = false
-  is_simple_step core true (operate operator checked e) next = false
-  is_simple_step core true (is class) next = false
-  is_simple_step core true (apply function checked) next = asks_text function && is_solid_type core next
-  is_simple_step core true (copy e e') next = false
-  is_simple_step core false (convert conversion origin) next = is_solid_type core next
-  is_simple_step core false bracket next = is_solid_type core next
-  is_simple_step core false (field id) next = is_solid_type core next
-  is_simple_step core false (index e) next = is_simple core e && is_solid_type core next
-  is_simple_step core false (method id dispatch given) next = false
-  is_simple_step core false (prefixed operator checked) next = is_solid_type core next
-  is_simple_step core false (operate operator checked e) next = is_simple core e && is_solid_type core next
-  is_simple_step core false (is class) next = is_solid_type core next
-  is_simple_step core false (apply function checked) next = is_solid_type core next
-  is_simple_step core false (copy e e') next = is_solid_type core next
+abbrev pub is_simple_node : Core → Node → Bool → Bool
+is_simple_node core (at_root root of) parts = is_simple_root core root of parts
+is_simple_node core (at_steps others) parts = parts
+is_simple_node core (at_step text action next) parts = is_simple_step core text action next parts
+is_simple_node core (at_argument a) parts = is_simple_argument a parts
+is_simple_node core at_construct parts = parts
+is_simple_node core at_method parts = parts
+is_simple_node core at_copy parts = true
+is_simple_node core at_input parts = true
+is_simple_node core at_strings parts = true
+is_simple_node core at_end parts = parts
+is_simple_node core at_handlers parts = true
+is_simple_node core at_raise parts = parts
+is_simple_node core (at_labels labels) parts = parts
 
-  pub are_simple_elements : Core → Elements → Bool
-  are_simple_elements core no_elements = true
-  are_simple_elements core (elements e es) = is_simple_element core e && are_simple_elements core es
+abbrev pub simple_tests : Core → Tests
+simple_tests core = record { of_node = is_simple_node core; of_amount = λ e parts. parts }
 
-  pub is_simple_element : Core → Element → Bool
-  is_simple_element core (one e) = is_simple core e
-  is_simple_element core (range e e') = is_simple core e && is_simple core e'
+abbrev pub is_simple : Core → Expression → Bool
+is_simple core e = passes (simple_tests core) (expression_nodes e)
 
-  pub are_simple_arguments : Core → Arguments → Bool
-  are_simple_arguments core no_arguments = true
-  are_simple_arguments core (arguments a others) = is_simple_argument core a && are_simple_arguments core others
-
-  pub is_simple_argument : Core → Argument → Bool
-  is_simple_argument core (value e) = is_simple core e
-  is_simple_argument core (place e) = is_simple core e
-  is_simple_argument core (array e) = false
-  is_simple_argument core (listed of es) = false
-
--- ---- statements
-
-abbrev pub is_simple_item : Core → Item → Bool
-is_simple_item core (plain e) = is_simple core e
-is_simple_item core (padded e width) = is_simple core e && is_simple core width
-
-abbrev pub is_simple_built_in : Core → BuiltIn → Bool
-is_simple_built_in core (write items ends_line) = list_all (is_simple_item core) items
-is_simple_built_in core (read targets ends_line) = true
-is_simple_built_in core (count direction target amount checked) = is_simple core target.place && is_simple core amount
-is_simple_built_in core (set_length target size) = true
-is_simple_built_in core (include s e) = is_simple core s && is_simple core e
-is_simple_built_in core (exclude s e) = is_simple core s && is_simple core e
-is_simple_built_in core (val e target code) = true
-is_simple_built_in core (str item target) = true
-is_simple_built_in core (free e empties) = is_simple core e
-is_simple_built_in core (destroy e) = is_simple core e
-
-abbrev mutual
-  pub is_simple_statement : Core → Statement → Bool
-  is_simple_statement core empty = true
-  is_simple_statement core (block ss) = are_simple_statements core ss
-  is_simple_statement core (if_then e s) = is_simple core e && is_simple_statement core s
-  is_simple_statement core (if_else e s t) = is_simple core e && (is_simple_statement core s && is_simple_statement core t)
-  is_simple_statement core (case_of e bs ss) = is_simple core e && (are_simple_branches core bs && are_simple_statements core ss)
-  is_simple_statement core (while_do e s) = is_simple core e && is_simple_statement core s
-  is_simple_statement core (repeat_until ss e) = are_simple_statements core ss && is_simple core e
-  is_simple_statement core (for_to id e direction f s) = is_simple core e && (is_simple core f && is_simple_statement core s)
-  is_simple_statement core (for_in id store e s) = is_simple core e && is_simple_statement core s
-  is_simple_statement core (try_finally ss ts) = are_simple_statements core ss && are_simple_statements core ts
-  is_simple_statement core (try_on ss hs) = true
-  is_simple_statement core (try_on_else ss hs ts) = true
-  is_simple_statement core (raise e) = is_simple core e
-  is_simple_statement core reraise = true
-  is_simple_statement core (call_statement e) = is_simple core e
-  is_simple_statement core (assign target e) = is_simple core target && is_simple core e
-  is_simple_statement core exit = true
-  is_simple_statement core (exit_with e) = is_simple core e
-  is_simple_statement core break = true
-  is_simple_statement core continue = true
-  is_simple_statement core (halt e) = is_simple core e
-  is_simple_statement core (built_in action) = is_simple_built_in core action
-
-  pub are_simple_statements : Core → Statements → Bool
-  are_simple_statements core no_statements = true
-  are_simple_statements core (statements s ss) = is_simple_statement core s && are_simple_statements core ss
-
-  pub are_simple_branches : Core → Branches → Bool
-  are_simple_branches core no_branches = true
-  are_simple_branches core (branches labels s bs) = is_simple_statement core s && are_simple_branches core bs
+abbrev pub are_simple_statements : Core → Statements → Bool
+are_simple_statements core ss = passes_in (simple_tests core) (statements_works ss)
 
 -- ---- programs
 

@@ -10,10 +10,11 @@ use Rattle.op_core.specs.declared.routine.Owner.TheVariants.{Unit as OfUnit}
 use Rattle.op_core.specs.declared.routine.Parameter.{Parameter}
 use Rattle.op_core.specs.declared.routine.Routine.{Routine}
 use Rattle.op_core.specs.declared.types.CoreType.TheVariants.{Boolean}
-use Rattle.op_frames.specs.Counted.{AreCountedArguments, AreCountedElements, AreCountedSteps, IsCounted, IsCountedAction, IsCountedArgument, IsCountedElement, IsCountedRoot}
+use Rattle.op_frames.specs.Counted.{IsCounted, counted_asks}
 use Rattle.op_frames.specs.Made.{Every}
 use Rattle.op_frames.specs.Wholes.{GivenIn, ReceiverIn}
 use Rattle.op_meaning.specs.Actions.{combine, single as lone, span}
+use Rattle.op_meaning.specs.Every.{EveryNode, action_nodes, argument_nodes, arguments_nodes, element_nodes, elements_nodes, is_text, root_nodes, steps_nodes, text_after}
 use Rattle.op_meaning.specs.Expressions.{Found, Here, converted, find, find_root, find_step, find_steps, gather, gather_one, goes_on_at, make, measured, own, pass, pass_one, past, past_whole, prefix, receiver_of, result_of}
 use Rattle.op_meaning.specs.Items.{act, enter, only, then_do}
 use Rattle.op_meaning.specs.Paths.{field as part_field}
@@ -23,7 +24,7 @@ use Rattle.op_tree.specs.declared.operator.Operator.TheVariants.{Add}
 use Rattle.op_typing.proofs.Expressions.{is_text_at_end, text_end, value_typed}
 use Rattle.op_typing.proofs.Founds.{env_at, instance_not_solid}
 use Rattle.op_typing.proofs.Rows.{of_some, some_and}
-use Rattle.op_typing.specs.Simple.{AreSimpleArguments, AreSimpleElements, AreSimpleSteps, IsSimple, IsSimpleArgument, IsSimpleElement, IsSimpleRoot, IsSimpleStep, is_text, text_after}
+use Rattle.op_typing.specs.Simple.{IsSimple, IsSimpleStep, simple_asks}
 use Rattle.op_wholes.proofs.FoundsNamed.{AreNamed, HasOwn, own_of, both, three, IsFound, place_in, variable_in, owned, text_kept, converted_in, prefix_in, acts_found, apply_found, step_found, index_found, pick_found, two_found, second_in, constant_found, receiver_in, given_in}
 use Rattle.op_wholes.proofs.ListsCovered.{AreListed, front_listed, back_listed}
 use Rattle.op_wholes.proofs.PlacesFound.{place_at}
@@ -51,7 +52,7 @@ module _ (core : Core) (r : ℕ) (wholes : List Root) (blocks : ℕ) (sees : See
         (root_in root here of h.0 s.0 c.0 (front_listed wholes (root_wholes core here.whole of root) (steps_wholes core here.whole others) w)) in
         ((owned core r wholes blocks (text_end (is_text root) others) (type_after of others) here f found_is).0, found_is.own_is)
 
-    root_in : (root : Start) (here : Here) (of : TypeId) → IsRoot core sees root of → IsSimpleRoot core root of → IsCountedRoot root → AreListed wholes (root_wholes core here.whole of root) → IsFound core r wholes blocks (is_text root) of here (find_root (env_at core r) here of root)
+    root_in : (root : Start) (here : Here) (of : TypeId) → IsRoot core sees root of → EveryNode (simple_asks core) (root_nodes root of) → EveryNode counted_asks (root_nodes root of) → AreListed wholes (root_wholes core here.whole of root) → IsFound core r wholes blocks (is_text root) of here (find_root (env_at core r) here of root)
     root_in (fixed v nodes words) here of h s c w = constant_found core r wholes blocks v nodes words of here h s
     root_in (variable id) here of h s c w = record { items = tt; own_is = own_of core wholes here.whole of w; now = variable_in core r wholes blocks id; state = s }
     root_in (object id) here of h s c w = absurd c
@@ -75,13 +76,13 @@ module _ (core : Core) (r : ℕ) (wholes : List Root) (blocks : ℕ) (sees : See
     root_in eof here of h s c w = record { items = tt; own_is = λ whole. absurd (kind_apart core (type_at core of) Boolean refl h whole); now = tt; state = s }
     root_in eoln here of h s c w = record { items = tt; own_is = λ whole. absurd (kind_apart core (type_at core of) Boolean refl h whole); now = tt; state = s }
 
-    steps_in : (ss : Steps) (here : Here) (text : Bool) (of : TypeId) (f : Found) → AreSteps core sees of ss → AreSimpleSteps core text ss → AreCountedSteps ss → AreListed wholes (steps_wholes core here.whole ss) → IsFound core r wholes blocks text of here f → IsFound core r wholes blocks (text_end text ss) (type_after of ss) here (find_steps (env_at core r) here of ss f)
+    steps_in : (ss : Steps) (here : Here) (text : Bool) (of : TypeId) (f : Found) → AreSteps core sees of ss → EveryNode (simple_asks core) (steps_nodes text ss) → EveryNode counted_asks (steps_nodes text ss) → AreListed wholes (steps_wholes core here.whole ss) → IsFound core r wholes blocks text of here f → IsFound core r wholes blocks (text_end text ss) (type_after of ss) here (find_steps (env_at core r) here of ss f)
     steps_in no_steps here text of f h s c w k = k
     steps_in (steps action next others) here text of f h s c w k =
         steps_in others here (text_after text action) next (find_step (env_at core r) here of action next f) h.1 s.1 c.1 (back_listed wholes (action_wholes core here.whole next action) (steps_wholes core here.whole others) w)
         (step_in action here text of next f h.0 s.0 c.0 (front_listed wholes (action_wholes core here.whole next action) (steps_wholes core here.whole others) w) k)
 
-    step_in : (action : Doing) (here : Here) (text : Bool) (of next : TypeId) (f : Found) → IsAction core sees of action next → IsSimpleStep core text action next → IsCountedAction action → AreListed wholes (action_wholes core here.whole next action) → IsFound core r wholes blocks text of here f → IsFound core r wholes blocks (text_after text action) next here (find_step (env_at core r) here of action next f)
+    step_in : (action : Doing) (here : Here) (text : Bool) (of next : TypeId) (f : Found) → IsAction core sees of action next → IsSimpleStep core text action next → EveryNode counted_asks (action_nodes action) → AreListed wholes (action_wholes core here.whole next action) → IsFound core r wholes blocks text of here f → IsFound core r wholes blocks (text_after text action) next here (find_step (env_at core r) here of action next f)
     step_in (convert k origin) here false of next f h s c w found_is =
         acts_found core r wholes blocks false of next here f (converted core k next here.temp) found_is (converted_in core r wholes blocks k next here.temp) (λ whole. subst (HasOwn core wholes here.whole) (converts_to core k of next h whole) found_is.own_is whole) s
     step_in bracket here false of next f h s c w found_is = let o = owned core r wholes blocks false of here f found_is in record { items = o.0; own_is = own_of core wholes here.whole next w; now = o.1; state = s }
@@ -109,14 +110,14 @@ module _ (core : Core) (r : ℕ) (wholes : List Root) (blocks : ℕ) (sees : See
     step_in (apply function checked) here true of next f h s c w found_is = apply_found core r wholes blocks (measured core function of f.now) true function checked of next here f found_is (own_of core wholes here.whole next w) s.1
     step_in _ here true of next f h s c w found_is = absurd s
 
-    gather_in : (es : Elements) (here : Here) (base : TypeId) → AreElements core sees base es → AreSimpleElements core es → AreCountedElements es → AreListed wholes (elements_wholes core here.whole es) → AreNamed wholes blocks (gather (env_at core r) here es)
+    gather_in : (es : Elements) (here : Here) (base : TypeId) → AreElements core sees base es → EveryNode (simple_asks core) (elements_nodes es) → EveryNode counted_asks (elements_nodes es) → AreListed wholes (elements_wholes core here.whole es) → AreNamed wholes blocks (gather (env_at core r) here es)
     gather_in no_elements here base h s c w = tt
     gather_in (elements e es) here base h s c w =
         both wholes blocks (gather_one (env_at core r) here e) (then_do (act (combine Add here.temp here.temp (here.temp + 1))) (gather (env_at core r) here es))
         (member_in e here base h.0 s.0 c.0 (front_listed wholes (element_wholes core here.whole e) (elements_wholes core here.whole es) w))
         (tt, gather_in es here base h.1 s.1 c.1 (back_listed wholes (element_wholes core here.whole e) (elements_wholes core here.whole es) w))
 
-    member_in : (m : Member) (here : Here) (base : TypeId) → IsElement core sees base m → IsSimpleElement core m → IsCountedElement m → AreListed wholes (element_wholes core here.whole m) → AreNamed wholes blocks (gather_one (env_at core r) here m)
+    member_in : (m : Member) (here : Here) (base : TypeId) → IsElement core sees base m → EveryNode (simple_asks core) (element_nodes m) → EveryNode counted_asks (element_nodes m) → AreListed wholes (element_wholes core here.whole m) → AreNamed wholes blocks (gather_one (env_at core r) here m)
     member_in (one e) here base h s c w =
         both wholes blocks (make (env_at core r) (past 1 here) e).items (only (act (lone (here.temp + 1) (here.temp + 1)))) (make_in e (past 1 here) (value_typed core sees base e h).0 s c w).0 (tt, tt)
     member_in (range e e') here base h s c w =
@@ -124,7 +125,7 @@ module _ (core : Core) (r : ℕ) (wholes : List Root) (blocks : ℕ) (sees : See
         (make_in e (past 1 here) (value_typed core sees base e h.0).0 s.0 c.0 (front_listed wholes (wholes_of core here.whole e) (wholes_of core here.whole e') w)).0
         (make_in e' (past 2 here) (value_typed core sees base e' h.1).0 s.1 c.1 (back_listed wholes (wholes_of core here.whole e) (wholes_of core here.whole e') w)).0 (tt, tt)
 
-    pass_in : (ps : List Parameter) (as' : Arguments) (here : Here) → AreArguments core sees ps as' → AreSimpleArguments core as' → AreCountedArguments as' → AreListed wholes (arguments_wholes core here.whole as') → AreNamed wholes blocks (pass (env_at core r) here as').items × Every (GivenIn wholes) (pass (env_at core r) here as').given
+    pass_in : (ps : List Parameter) (as' : Arguments) (here : Here) → AreArguments core sees ps as' → EveryNode (simple_asks core) (arguments_nodes as') → EveryNode counted_asks (arguments_nodes as') → AreListed wholes (arguments_wholes core here.whole as') → AreNamed wholes blocks (pass (env_at core r) here as').items × Every (GivenIn wholes) (pass (env_at core r) here as').given
     pass_in [] no_arguments here h s c w = (tt, tt)
     pass_in (p ∷ ps) (arguments a others) here h s c w =
         let first = pass_one (env_at core r) here a in
@@ -134,7 +135,7 @@ module _ (core : Core) (r : ℕ) (wholes : List Root) (blocks : ℕ) (sees : See
     pass_in [] (arguments a others) here h s c w = absurd h
     pass_in (p ∷ ps) no_arguments here h s c w = absurd h
 
-    argument_in : (a : Argument) (here : Here) (p : Parameter) → IsArgument core sees p a → IsSimpleArgument core a → IsCountedArgument a → AreListed wholes (argument_wholes core here.whole a) → AreNamed wholes blocks (pass_one (env_at core r) here a).items × GivenIn wholes (pass_one (env_at core r) here a).given
+    argument_in : (a : Argument) (here : Here) (p : Parameter) → IsArgument core sees p a → EveryNode (simple_asks core) (argument_nodes a) → EveryNode counted_asks (argument_nodes a) → AreListed wholes (argument_wholes core here.whole a) → AreNamed wholes blocks (pass_one (env_at core r) here a).items × GivenIn wholes (pass_one (env_at core r) here a).given
     argument_in (value e) here p h s c w =
         let made = make_in e here (value_typed core sees p.of e h.0).0 s c w in
         (made.0, given_in core r wholes blocks (shape_of core (type_of e)) (type_of e) here refl made.1)

@@ -20,6 +20,7 @@ use Rattle.op_frames.proofs.ExpressionsWithin.{made_both, made_three}
 use Rattle.op_frames.specs.Made.{AreMade}
 use Rattle.op_frames.specs.Wholes.{ActionIn, AreWholesIn, GivenIn, IsWholeIn, ReceiverIn}
 use Rattle.op_meaning.specs.Actions.{Action, compare, complement, arithmetic, constant, invert, pick}
+use Rattle.op_meaning.specs.Every.{EveryNode, is_text, root_nodes}
 use Rattle.op_meaning.specs.Expressions.{Found, Here, Now, a_text, applied, applied_by, at_path, converted, converted_by, element_step, found, given_by, is_boolean, is_comparison, loaded, looked_at, make, moved, of_constant, on_two, own, own_by, past, path_of, prefix, ready, receiver_by, receiver_of, second_here, then_acts, then_index_by, then_step, two_by}
 use Rattle.op_meaning.specs.Items.{Items, act, acts, also, none, only, ◌&◌}
 use Rattle.op_meaning.specs.Paths.{Path, Step, in_global, in_local, root_of, through}
@@ -33,7 +34,7 @@ use Rattle.op_tree.specs.declared.operator.PrefixOperator.{PrefixOperator}
 use Rattle.op_tree.specs.declared.operator.PrefixOperator.TheVariants.{Minus, Not, Plus}
 use Rattle.op_typing.proofs.Founds.{env_at}
 use Rattle.op_typing.proofs.Rows.{not_true}
-use Rattle.op_typing.specs.Simple.{IsSimpleRoot, IsSolidType, is_text}
+use Rattle.op_typing.specs.Simple.{IsSolidType, simple_asks}
 use Rattle.op_wholes.proofs.ListsCovered.{IsListed, AreListed}
 use Rattle.op_wholes.proofs.PlacesFound.{IsAt}
 use Rattle.op_wholes.proofs.TypesWhole.{IsWhole, whole_shape, constant_apart, one_whole}
@@ -236,7 +237,7 @@ module _ (core : Core) (r : ℕ) (wholes : List Root) (blocks : ℕ) where
 
   -- ---- constants
 
-  pub constant_found : (c : Const) (nodes words : ℕ) (of : TypeId) (here : Here) → Fits core c of → IsSimpleRoot core (fixed c nodes words) of → IsFound (is_text (fixed c nodes words)) of here (of_constant c here.temp)
+  pub constant_found : (c : Const) (nodes words : ℕ) (of : TypeId) (here : Here) → Fits core c of → EveryNode (simple_asks core) (root_nodes (fixed c nodes words) of) → IsFound (is_text (fixed c nodes words)) of here (of_constant c here.temp)
   constant_found (Ordinal n) nodes words of here h s = record { items = (tt, tt); own_is = λ e. absurd (constant_apart core (Ordinal n) of h e); now = tt; state = s }
   constant_found (SetOf es) nodes words of here h s = record { items = (tt, tt); own_is = λ e. absurd (constant_apart core (SetOf es) of h e); now = tt; state = s }
   constant_found (Text bytes) nodes words of here h s = record { items = tt; own_is = λ e. absurd (constant_apart core (Text bytes) of h e); now = tt; state = tt }

@@ -12,11 +12,12 @@ use Rattle.op_core.specs.declared.ids.TypeId.{TypeId}
 use Rattle.op_core.specs.declared.program.Core.{Core}
 use Rattle.op_core.specs.declared.types.CoreType.{CoreType}
 use Rattle.op_core.specs.declared.types.CoreType.TheVariants.{Array, Class, DynamicArray, OpenArray, Record, String}
+use Rattle.op_meaning.specs.Every.{EveryNode, is_text, root_nodes, steps_nodes, text_after}
 use Rattle.op_meaning.specs.Expressions.{Found, Here, Now, a_text, at_path, find, find_root, find_step, find_steps, make, of_constant, past, past_whole, ready, then_index_by}
 use Rattle.op_meaning.specs.Items.{Items}
 use Rattle.op_typing.proofs.Founds.{env_at}
 use Rattle.op_typing.proofs.Rows.{not_true}
-use Rattle.op_typing.specs.Simple.{AreSimpleSteps, IsSimple, IsSimpleRoot, IsSimpleStep, IsSolidType, is_solid, is_text, text_after}
+use Rattle.op_typing.specs.Simple.{IsSimple, IsSimpleStep, IsSolidType, is_solid, simple_asks}
 
 -- a place, and no value that was made
 abbrev pub IsAt : Now → Type 0
@@ -62,13 +63,13 @@ module _ (core : Core) (r : ℕ) (sees : Sees) where
   IsReached true of so_far now = (type_at core of ≡ Some String) × (so_far ≡ false)
   IsReached false of so_far now = IsSolidType core of × (so_far ≡ true → IsAt now)
 
-  constant_reached : (c : Const) (nodes words : ℕ) (of : TypeId) (now : Now) → Fits core c of → IsSimpleRoot core (fixed c nodes words) of → IsReached (is_text (fixed c nodes words)) of false now
+  constant_reached : (c : Const) (nodes words : ℕ) (of : TypeId) (now : Now) → Fits core c of → EveryNode (simple_asks core) (root_nodes (fixed c nodes words) of) → IsReached (is_text (fixed c nodes words)) of false now
   constant_reached (Text bytes) nodes words of now h s = (h, refl)
   constant_reached (Ordinal n) nodes words of now h s = (s, λ e. absurd (not_true e))
   constant_reached (SetOf es) nodes words of now h s = (s, λ e. absurd (not_true e))
   constant_reached NilOf nodes words of now h s = (s, λ e. absurd (not_true e))
 
-  root_reached : (root : Start) (here : Here) (of : TypeId) → IsRoot core sees root of → IsSimpleRoot core root of → IsReached (is_text root) of (is_variable root) (find_root (env_at core r) here of root).now
+  root_reached : (root : Start) (here : Here) (of : TypeId) → IsRoot core sees root of → EveryNode (simple_asks core) (root_nodes root of) → IsReached (is_text root) of (is_variable root) (find_root (env_at core r) here of root).now
   root_reached (fixed c nodes words) here of h s = constant_reached c nodes words of (of_constant c here.temp).now h s
   root_reached (variable id) here of h s = (s, λ e. tt)
   root_reached (object id) here of h s = (s, λ e. absurd (not_true e))
@@ -98,7 +99,7 @@ module _ (core : Core) (r : ℕ) (sees : Sees) where
   end_reached true of so_far now k e = absurd (not_true (sym k.1 ∙ e))
   end_reached false of so_far now k e = k.1 e
 
-  steps_reached : (chars : Bool) (ss : Steps) (here : Here) (text : Bool) (of : TypeId) (so_far : Bool) (f : Found) → AreSteps core sees of ss → AreSimpleSteps core text ss → IsReached text of so_far f.now → is_place_after chars core of ss so_far ≡ true → IsAt (find_steps (env_at core r) here of ss f).now
+  steps_reached : (chars : Bool) (ss : Steps) (here : Here) (text : Bool) (of : TypeId) (so_far : Bool) (f : Found) → AreSteps core sees of ss → EveryNode (simple_asks core) (steps_nodes text ss) → IsReached text of so_far f.now → is_place_after chars core of ss so_far ≡ true → IsAt (find_steps (env_at core r) here of ss f).now
   steps_reached chars no_steps here text of so_far f h s k leads = end_reached text of so_far f.now k leads
   steps_reached chars (steps action next others) here text of so_far f h s k leads =
       steps_reached chars others here (text_after text action) next (leads_on chars (type_at core of) action so_far) (find_step (env_at core r) here of action next f) h.1 s.1 (step_reached chars action here text of next so_far f h.0 s.0 k) leads

@@ -13,10 +13,11 @@ use Rattle.op_core.specs.declared.constant.Const.TheVariants.{Ordinal, Text, Set
 use Rattle.op_core.specs.declared.ids.TypeId.{TypeId}
 use Rattle.op_core.specs.declared.program.Core.{Core}
 use Rattle.op_core.specs.declared.types.IntegerKind.TheVariants.{Signed32}
-use Rattle.op_frames.specs.Counted.{AreCountedBranches, AreCountedItems, AreCountedStatements, IsCounted, IsCountedAmount, IsCountedBuiltIn, IsCountedItem, IsCountedStatement}
+use Rattle.op_frames.specs.Counted.{AreCountedStatements, IsCounted, IsCountedAmount, IsCountedStatement, counted_asks}
 use Rattle.op_frames.specs.Made.{AreMadeCases}
 use Rattle.op_frames.specs.Wholes.{AreWholesIn, IsWholeIn}
 use Rattle.op_meaning.specs.Actions.{arithmetic, combine, load, single as lone, store}
+use Rattle.op_meaning.specs.Every.{EveryWork, branches_works, built_in_works, item_works, items_works}
 use Rattle.op_meaning.specs.Expressions.{Found, Here, at_path, converted, find, found, make, past, past_whole, path_of}
 use Rattle.op_meaning.specs.Items.{act, acts, choose, halt, leave, none, only, select, ◌&◌}
 use Rattle.op_meaning.specs.Shapes.{shape_of}
@@ -29,7 +30,7 @@ use Rattle.op_tree.specs.declared.statement.Direction.{Direction}
 use Rattle.op_typing.proofs.Expressions.{value_typed}
 use Rattle.op_typing.proofs.Founds.{env_at}
 use Rattle.op_typing.proofs.Rows.{each_row, some_and}
-use Rattle.op_typing.specs.Simple.{AreSimpleBranches, AreSimpleItems, AreSimpleStatements, IsSimple, IsSimpleBuiltIn, IsSimpleItem, IsSimpleStatement}
+use Rattle.op_typing.specs.Simple.{AreSimpleStatements, IsSimple, IsSimpleStatement, simple_asks}
 use Rattle.op_wholes.proofs.ExpressionsNamed.{find_in, make_in}
 use Rattle.op_wholes.proofs.FoundsNamed.{AreNamed, own_of, both, three, place_in, converted_in}
 use Rattle.op_wholes.proofs.ListsCovered.{IsListed, AreListed, front_listed, back_listed}
@@ -44,19 +45,19 @@ module _ (core : Core) (r : ℕ) (wholes : List Root) (blocks : ℕ) (sees : See
 
   -- ---- built-in procedures
 
-  one_in : (here : Here) (o : Output) → IsItem core sees o → IsSimpleItem core o → IsCountedItem o → AreListed wholes (item_wholes core here.whole o) → AreNamed wholes blocks (write_one (env_at core r) here o)
+  one_in : (here : Here) (o : Output) → IsItem core sees o → EveryWork (simple_asks core) (item_works o) → EveryWork counted_asks (item_works o) → AreListed wholes (item_wholes core here.whole o) → AreNamed wholes blocks (write_one (env_at core r) here o)
   one_in here (plain e) h s c w = value_in core r wholes blocks here (type_of e) (make (env_at core r) here e) (no_width here) (make (env_at core r) here e).now (made e here h.0 s c w) (tt, tt)
   one_in here (padded e width) h s c w =
       value_in core r wholes blocks here (type_of e) (make (env_at core r) here e) (make (env_at core r) (past 1 here) width).items (make (env_at core r) here e).now
       (made e here h.0.0 s.0 c.0 (front_listed wholes (wholes_of core here.whole e) (wholes_of core here.whole width) w))
       (made width (past 1 here) h.1.0 s.1 c.1 (back_listed wholes (wholes_of core here.whole e) (wholes_of core here.whole width) w))
 
-  outputs_in : (here : Here) (os : List Output) → All (IsItem core sees) os → AreSimpleItems core os → AreCountedItems os → AreListed wholes (items_wholes core here.whole os) → AreNamed wholes blocks (write_all (env_at core r) here os)
+  outputs_in : (here : Here) (os : List Output) → All (IsItem core sees) os → EveryWork (simple_asks core) (items_works os) → EveryWork counted_asks (items_works os) → AreListed wholes (items_wholes core here.whole os) → AreNamed wholes blocks (write_all (env_at core r) here os)
   outputs_in here [] h s c w = tt
   outputs_in here (o ∷ os) h s c w =
       both wholes blocks (write_one (env_at core r) here o) (write_all (env_at core r) here os)
-      (one_in here o (each_row (IsItem core sees) (o ∷ os) 0 o h refl) (each_row (IsSimpleItem core) (o ∷ os) 0 o s refl) c.0 (front_listed wholes (item_wholes core here.whole o) (items_wholes core here.whole os) w))
-      (outputs_in here os (All-drop (IsItem core sees) 1 (o ∷ os) h) (All-drop (IsSimpleItem core) 1 (o ∷ os) s) c.1 (back_listed wholes (item_wholes core here.whole o) (items_wholes core here.whole os) w))
+      (one_in here o (each_row (IsItem core sees) (o ∷ os) 0 o h refl) s.0 c.0 (front_listed wholes (item_wholes core here.whole o) (items_wholes core here.whole os) w))
+      (outputs_in here os (All-drop (IsItem core sees) 1 (o ∷ os) h) s.1 c.1 (back_listed wholes (item_wholes core here.whole o) (items_wholes core here.whole os) w))
 
   bare_in : (here : Here) (v : Const) (nodes words : ℕ) (of : TypeId) → AreNamed wholes blocks (make (env_at core r) here (expression (fixed v nodes words) of no_steps)).items
   bare_in here (Ordinal n) nodes words of = (tt, tt)
@@ -96,7 +97,7 @@ module _ (core : Core) (r : ℕ) (wholes : List Root) (blocks : ℕ) (sees : See
       let path = place_in core r wholes blocks (type_of s) here f.now (place_at core r sees false s here h.0.0.0 p h.0.1) found_is.now in
       changed_in here o s e f found_is.items path (made e (past (f.used + 1) (past_whole here)) h.1 q d (back_listed wholes (wholes_of core here.whole s) (wholes_of core (here.whole + 1) e) w))
 
-  procedure_in : (b : BuiltIn) (here : Here) → IsBuiltIn core sees b → IsSimpleBuiltIn core b → IsCountedBuiltIn b → AreListed wholes (built_in_wholes core here.whole b) → AreNamed wholes blocks (done_built_in (env_at core r) here b)
+  procedure_in : (b : BuiltIn) (here : Here) → IsBuiltIn core sees b → EveryWork (simple_asks core) (built_in_works b) → EveryWork counted_asks (built_in_works b) → AreListed wholes (built_in_wholes core here.whole b) → AreNamed wholes blocks (done_built_in (env_at core r) here b)
   procedure_in (write items ends) here h s c w = both wholes blocks (write_all (env_at core r) here items) (line_end here ends) (outputs_in here items h s c w) (line_in core r wholes blocks here ends)
   procedure_in (count d target amount checked) here h s c w =
       let f = find (env_at core r) here target.place in
@@ -158,8 +159,8 @@ module _ (core : Core) (r : ℕ) (wholes : List Root) (blocks : ℕ) (sees : See
         let body = statement_in s (in_loop around) here h.1 p.1 c.1 (back_listed wholes (wholes_of core here.whole e) (statement_wholes core here.whole s) w) in
         ((λ k above less. tt, test, tt, body), tt)
     statement_in (repeat_until ss e) around here h p c w =
-        let body = statements_in ss (in_loop around) here h.0 p.0 c.1 (front_listed wholes (wholes_of_statements core here.whole ss) (wholes_of core here.whole e) w) in
-        let test = made e here h.1.0 p.1 c.0 (back_listed wholes (wholes_of_statements core here.whole ss) (wholes_of core here.whole e) w) in
+        let body = statements_in ss (in_loop around) here h.0 p.1 c.1 (front_listed wholes (wholes_of_statements core here.whole ss) (wholes_of core here.whole e) w) in
+        let test = made e here h.1.0 p.0 c.0 (back_listed wholes (wholes_of_statements core here.whole ss) (wholes_of core here.whole e) w) in
         ((λ k above less. tt, test, tt, body), tt)
     statement_in (for_to id e direction f s) around here h p c w =
         let rest = back_listed wholes (wholes_of core here.whole e) (wholes_of core here.whole f ++ statement_wholes core here.whole s) w in
@@ -204,9 +205,9 @@ module _ (core : Core) (r : ℕ) (wholes : List Root) (blocks : ℕ) (sees : See
         (statement_in s around here h.0 p.0 c.0 (front_listed wholes (statement_wholes core here.whole s) (wholes_of_statements core here.whole ss) w))
         (statements_in ss around here h.1 p.1 c.1 (back_listed wholes (statement_wholes core here.whole s) (wholes_of_statements core here.whole ss) w))
 
-    branches_in : (bs : Branches) (around : Around) (here : Here) (of : TypeId) → AreBranches core sees around of bs → AreSimpleBranches core bs → AreCountedBranches bs → AreListed wholes (branches_wholes core here.whole bs) → AreMadeCases (AreWholesIn wholes) blocks (cases_of (env_at core r) here bs)
+    branches_in : (bs : Branches) (around : Around) (here : Here) (of : TypeId) → AreBranches core sees around of bs → EveryWork (simple_asks core) (branches_works bs) → EveryWork counted_asks (branches_works bs) → AreListed wholes (branches_wholes core here.whole bs) → AreMadeCases (AreWholesIn wholes) blocks (cases_of (env_at core r) here bs)
     branches_in no_branches around here of h p c w = tt
     branches_in (branches labels s bs) around here of h p c w = (
-      statement_in s around here h.1 p.0 c.1 (front_listed wholes (statement_wholes core here.whole s) (branches_wholes core here.whole bs) w),
-      branches_in bs around here of h.2 p.1 c.2 (back_listed wholes (statement_wholes core here.whole s) (branches_wholes core here.whole bs) w),
+      statement_in s around here h.1 p.1 c.1 (front_listed wholes (statement_wholes core here.whole s) (branches_wholes core here.whole bs) w),
+      branches_in bs around here of h.2 p.2 c.2 (back_listed wholes (statement_wholes core here.whole s) (branches_wholes core here.whole bs) w),
     )
