@@ -49,7 +49,7 @@ use Rattle.op_agreement.proofs.Places.{HaveIndices, small_last}
 use Rattle.op_agreement.proofs.Pricing.{afford}
 use Rattle.op_agreement.proofs.Standing.{Next, SameVariables, Temporaries, here, stands_on}
 use Rattle.op_agreement.proofs.Updating.{limit_here}
-use Rattle.op_agreement.proofs.Writing.{room_there}
+use Rattle.op_agreement.proofs.Primitives.{room_there}
 use Rattle.op_agreement.specs.Chart.{Floor}
 use Rattle.op_agreement.specs.Coding.{code_for}
 use Rattle.op_agreement.specs.Fitting.{IsFitting}

@@ -10,13 +10,13 @@ use Rattle.op_agreement.proofs.Following.{Comes}
 use Rattle.op_agreement.proofs.Going.{Goes, GoesTo, goes_from, goes_one, goes_straight, goes_then, goes_within}
 use Rattle.op_agreement.proofs.Lengths.{low_bits_short}
 use Rattle.op_agreement.proofs.Pricing.{afford}
+use Rattle.op_agreement.proofs.Primitives.{text_there}
 use Rattle.op_agreement.proofs.Putting.{variable_puts}
 use Rattle.op_agreement.proofs.Sparing.{spare_fits}
 use Rattle.op_agreement.proofs.Standing.{Next, here, stands_on}
 use Rattle.op_agreement.proofs.Storing.{stays_variable}
 use Rattle.op_agreement.proofs.Taking.{CanTake, taken_goes, take_most}
 use Rattle.op_agreement.proofs.Updating.{floors_here}
-use Rattle.op_agreement.proofs.Writing.{text_there}
 use Rattle.op_agreement.proofs.Zeroing.{CanClear, clear_most, emptied_goes}
 use Rattle.op_agreement.specs.Chart.{Floor, address_of}
 use Rattle.op_agreement.specs.Coding.{code_for}

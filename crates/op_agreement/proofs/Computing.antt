@@ -58,7 +58,7 @@ module _ (g : Setting) (f : Floor) (fits : FrameFits g.core f.number f.routine f
           let there : new (f.frame.bank.temporaries + t) ≡ old (f.frame.bank.temporaries + t) = gives.others (f.frame.bank.temporaries + t) (omega arith) (λ same. other (omega arith)) in
           subst (λ b. IsWordOf (new (f.frame.bank.temporaries + t)) (number_in (if b then number n else temps t))) (sym test) (subst (λ x. IsWordOf x (number_in (temps t))) (sym there) (are t low))
 
-nameless_set : (to : ℕ) (n : ℤ) (temps : ℕ → Value) → ((t : ℕ) → IsNameless (temps t)) → (t : ℕ) → IsNameless (if nat_eq t to then number n else temps t)
+pub nameless_set : (to : ℕ) (n : ℤ) (temps : ℕ → Value) → ((t : ℕ) → IsNameless (temps t)) → (t : ℕ) → IsNameless (if nat_eq t to then number n else temps t)
 nameless_set to n temps are t = by (nat_eq t to)
   where
     by : (b : Bool) → IsNameless (if b then number n else temps t)

@@ -11,7 +11,7 @@ use Rattle.op_meaning.specs.World.{Ending, Running as GoingOn, Ended as HasEnded
 use Rattle.op_mir.specs.declared.instruction.Call.{Call as Operands}
 use Rattle.op_mir.specs.Machine.{MirState, mir_step}
 use Rattle.op_mir.specs.View.{view_instruction}
-use Rattle.op_mir.specs.declared.action.Action.TheVariants.{Constant, Load, Store, Copy, Look, BeginWith, Pick, Compute, Write, WriteText}
+use Rattle.op_mir.specs.declared.action.Action.TheVariants.{Constant, Load, Store, Copy, Look, BeginWith, Pick, Compute, Do}
 use Rattle.op_mir.specs.declared.action.Action.{Action}
 use Rattle.op_mir.specs.declared.ids.BlockId.{BlockId}
 use Rattle.op_mir.specs.declared.instruction.Instruction.TheVariants.{Act, Call, Jump, When, Unless, Switch, Dispatch, MakeDue, Stop, Return}
@@ -34,7 +34,7 @@ use Rattle.op_agreement.proofs.Standing.{Next, here, literals_split}
 use Rattle.op_agreement.proofs.StillDue.{closing_due, instruction_due}
 use Rattle.op_agreement.proofs.Storing.{store_comes}
 use Rattle.op_agreement.proofs.Waiting.{caller_waits}
-use Rattle.op_agreement.proofs.Writing.{write_comes, write_text_comes}
+use Rattle.op_agreement.proofs.Primitives.{primitive_comes}
 use Rattle.op_agreement.specs.Chart.{Floor}
 use Rattle.op_agreement.specs.Claims.{AgreesForEver, LowCodeFollows}
 use Rattle.op_expand.specs.Calls.{finalizations}
@@ -60,8 +60,7 @@ module _ (g : Setting) (fit : IsFitting g) (m : MirState) (l : State) (ending : 
   action_comes (Load to kind from) landing is next = load_comes g fit m l floors is to kind from landing next
   action_comes (Store to kind from) landing is next = store_comes g fit m l floors is kind from to landing next
   action_comes (Compute c) landing is next = compute_comes g fit m l floors is c landing next
-  action_comes (Write w) landing is next = write_comes g fit m l floors is w landing next
-  action_comes (WriteText text width) landing is next = write_text_comes g fit m l floors is text width landing next
+  action_comes (Do p os to) landing is next = primitive_comes g fit m l floors is p os to landing next
   action_comes (Copy of to from) landing is next = copy_comes g fit m l floors is of to from landing next
   action_comes (Look at) landing is next = look_comes g fit m l floors is at landing next
   action_comes (BeginWith v) landing is next = begin_with_comes g fit m l floors is v landing next

@@ -134,10 +134,10 @@ module _ (g : Setting) where
       }
 
   -- and so does the program above
-  pub error_stands : IsFitting g → (m : MirState) (e : RuntimeError) (k : State) → k.ending ≡ Ended (number_of_error e) → k.output ≡ m.world.output → k.errors ≡ m.world.errors ++ error_line (number_of_error e) → k.input ≡ m.world.input → Stands g (record m { world = failed g.core (number_of_error e) m.world }) k
-  error_stands fit m e k ending output errors input = by (failed g.core (number_of_error e) m.world) (failed_stops g.core fit.program.exceptions (number_of_error e) m.world)
+  pub error_stands : IsFitting g → (m : MirState) (n : ℕ) (k : State) → k.ending ≡ Ended n → k.output ≡ m.world.output → k.errors ≡ m.world.errors ++ error_line n → k.input ≡ m.world.input → Stands g (record m { world = failed g.core n m.world }) k
+  error_stands fit m n k ending output errors input = by (failed g.core n m.world) (failed_stops g.core fit.program.exceptions n m.world)
     where
-      by : (w : World) → w ≡ stopped (number_of_error e) m.world → Stands g (record m { world = w }) k
+      by : (w : World) → w ≡ stopped n m.world → Stands g (record m { world = w }) k
       by w is = subst (λ x. Stands g (record m { world = x }) k) (sym is) (record { ending = ending; output = output; errors = errors; input = input })
 
   pub error_ends : IsFitting g → (floors : ℕ → Floor) (m : MirState) (l : State) → Stays g floors m l → (e : RuntimeError) (f : ℕ → ℕ) (rest : List Instr) → (k : State) × Goes g 5 5 (at l f (block_of g.low l.top.routine (error_block_of (here m floors).frame.bank e).0)) k × Stands g (record m { world = failed g.core (number_of_error e) m.world; work = rest }) k
@@ -149,5 +149,5 @@ module _ (g : Setting) where
       ap₂ (λ r b. block_of g.low r (b + place_of_error e)) a.same a.floor.fits.errors ∙ a.floor.expanded.errors e in (
         runs.to,
         goes_from g 5 (at l f (block_of g.low l.top.routine (error_block_of (here m floors).frame.bank e).0)) (at l f (error_code (number_of_error e) (3 + place_of_error e))) runs.to (ap (at l f) code) runs.goes,
-        error_stands fit (record m { work = rest }) e runs.to runs.ending (runs.output ∙ s.output) (runs.errors ∙ ap (λ x. x ++ error_line (number_of_error e)) s.errors) (runs.input ∙ s.input),
+        error_stands fit (record m { work = rest }) (number_of_error e) runs.to runs.ending (runs.output ∙ s.output) (runs.errors ∙ ap (λ x. x ++ error_line (number_of_error e)) s.errors) (runs.input ∙ s.input),
       )

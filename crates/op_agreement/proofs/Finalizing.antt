@@ -249,7 +249,7 @@ module _ (g : Setting) (fit : IsFitting g) (m : MirState) (l : State) (status : 
               (goes_then g 3 1 1 l at_charging runs.to (omega arith) counts (goes_then g 1 5 1 at_charging error_state runs.to (omega arith) (goes_to g 1 at_charging (at state_there h (block_of g.low (closing_number g.core) (error_block_of framed.bank StackOverflow).0)) error_state same away) runs.goes))
               (few_cost g 11 m ending (omega arith));
           stands = subst (λ y. Stands g y runs.to) (sym (step_is ∙ begun_over (managed g) f.0 nowhere [] taken over))
-              (error_stands g fit taken StackOverflow runs.to runs.ending (runs.output ∙ s.stays.output) (runs.errors ∙ ap (λ x. x ++ error_line 202) s.stays.errors) (runs.input ∙ s.stays.input));
+              (error_stands g fit taken 202 runs.to runs.ending (runs.output ∙ s.stays.output) (runs.errors ∙ ap (λ x. x ++ error_line 202) s.stays.errors) (runs.input ∙ s.stays.input));
         }
 
     -- ---- the part is entered

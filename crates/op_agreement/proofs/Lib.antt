@@ -46,6 +46,8 @@ pub mod Picking
 pub mod Places
 pub mod Placing
 pub mod Pricing
+pub mod Primitives
+pub mod PrimitivesDo
 pub mod Prologue
 pub mod Putting
 pub mod Receiving
@@ -65,5 +67,4 @@ pub mod Taking
 pub mod Updating
 pub mod Waiting
 pub mod WholeWords
-pub mod Writing
 pub mod Zeroing

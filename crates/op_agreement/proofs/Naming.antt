@@ -17,7 +17,7 @@ use Rattle.op_meaning.specs.Expressions.{result_of}
 use Rattle.op_meaning.specs.Paths.{Step as MeantStep, in_temporary}
 use Rattle.op_meaning.specs.Shapes.{type_of_local, variables_of}
 use Rattle.op_mir.specs.View.{view_action, view_given, view_path, view_receiver, view_root}
-use Rattle.op_mir.specs.declared.action.Action.TheVariants.{Constant, Load, Store, Copy, Look, BeginWith, Pick, Compute, Write, WriteText}
+use Rattle.op_mir.specs.declared.action.Action.TheVariants.{Constant, Load, Store, Copy, Look, BeginWith, Pick, Compute, Do}
 use Rattle.op_mir.specs.declared.action.Action.{Action}
 use Rattle.op_mir.specs.declared.code.Block.{Block}
 use Rattle.op_mir.specs.declared.code.Mir.{Mir}
@@ -111,8 +111,7 @@ module _ (core : Core) (r : ℕ) where
   action_may roots (BeginWith v) all may = all
   action_may roots (Pick to text index) all may = all
   action_may roots (Compute k) all may = all
-  action_may roots (Write w) all may = all
-  action_may roots (WriteText text width) all may = all
+  action_may roots (Do p os to) all may = all
 
   instruction_may : (roots : List Root) (i : Instruction) → AllMay roots → NamesFit core r i → AllMay (with_instruction roots i)
   instruction_may roots (Act a landing) all may = action_may roots a all may
@@ -161,8 +160,7 @@ module _ (core : Core) (r : ℕ) where
   action_typed (BeginWith v) typed = tt
   action_typed (Pick to text index) typed = tt
   action_typed (Compute k) typed = tt
-  action_typed (Write w) typed = tt
-  action_typed (WriteText text width) typed = tt
+  action_typed (Do p os to) typed = tt
 
   -- of what is given to a parameter, and to all
   given_typed : (g : Given) (p : Variable) → IsTypedGiven core r (view_given g) p → MayBeGiven core r g

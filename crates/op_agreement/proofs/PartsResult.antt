@@ -12,11 +12,11 @@ use Rattle.op_agreement.proofs.Copying.{having, none_goes, some_go}
 use Rattle.op_agreement.proofs.Following.{Comes}
 use Rattle.op_agreement.proofs.Going.{Goes, goes_fewer, goes_from, goes_one, goes_then, goes_to, goes_within}
 use Rattle.op_agreement.proofs.Pricing.{charge_of_floor, least}
+use Rattle.op_agreement.proofs.Primitives.{room_there}
 use Rattle.op_agreement.proofs.Resulting.{WordGoes, caller, caller_gets, local_address, number_result_comes, result_at, result_code_is, result_small, result_within, return_step, returned}
 use Rattle.op_agreement.proofs.Returning.{live_deeper, procedure_comes}
 use Rattle.op_agreement.proofs.Standing.{Next, here}
 use Rattle.op_agreement.proofs.Updating.{limit_here}
-use Rattle.op_agreement.proofs.Writing.{room_there}
 use Rattle.op_agreement.specs.Chart.{Floor, IsAt}
 use Rattle.op_agreement.specs.Coding.{code_for}
 use Rattle.op_agreement.specs.Fitting.{IsFitting}

@@ -13,9 +13,9 @@ use Rattle.op_agreement.proofs.Going.{Goes, GoesTo, goes_from, goes_one, goes_st
 use Rattle.op_agreement.proofs.Loading.{index_fails}
 use Rattle.op_agreement.proofs.Memory.{may_access}
 use Rattle.op_agreement.proofs.Pricing.{afford}
+use Rattle.op_agreement.proofs.Primitives.{text_there}
 use Rattle.op_agreement.proofs.Standing.{Next, here}
 use Rattle.op_agreement.proofs.Updating.{limit_here}
-use Rattle.op_agreement.proofs.Writing.{text_there}
 use Rattle.op_agreement.specs.Chart.{Floor}
 use Rattle.op_agreement.specs.Coding.{code_for}
 use Rattle.op_agreement.specs.Fitting.{IsFitting}

@@ -7,7 +7,7 @@ use Rattle.op_core.specs.declared.program.Core.{Core}
 use Rattle.op_expand.proofs.RoomLemmas.{one_with_itself}
 use Rattle.op_expand.specs.Frames.{frame_of}
 use Rattle.op_expand.specs.Homes.{is_one_root, roots_of, with_action, with_block, with_call, with_given, with_instruction, with_place, with_receiver, with_root, with_temporary}
-use Rattle.op_mir.specs.declared.action.Action.TheVariants.{Constant, Load, Store, Copy, Look, BeginWith, Pick, Compute, Write, WriteText}
+use Rattle.op_mir.specs.declared.action.Action.TheVariants.{Constant, Load, Store, Copy, Look, BeginWith, Pick, Compute, Do}
 use Rattle.op_mir.specs.declared.action.Action.{Action}
 use Rattle.op_mir.specs.declared.code.Block.{Block}
 use Rattle.op_mir.specs.declared.code.Routine.{Routine}
@@ -80,8 +80,7 @@ module _ (root : Root) where
   action_stays roots (BeginWith v) h = h
   action_stays roots (Pick to text index) h = h
   action_stays roots (Compute k) h = h
-  action_stays roots (Write w) h = h
-  action_stays roots (WriteText text width) h = h
+  action_stays roots (Do p os to) h = h
 
   instruction_stays : (roots : List Root) (i : Instruction) → IsAmong roots → IsAmong (with_instruction roots i)
   instruction_stays roots (Act a landing) h = action_stays roots a h
@@ -163,8 +162,7 @@ module _ (core : Core) (r : ℕ) (x : Routine) (has : HasVariables core r x) whe
   action_home roots (BeginWith v) among = tt
   action_home roots (Pick to text index) among = tt
   action_home roots (Compute k) among = tt
-  action_home roots (Write w) among = tt
-  action_home roots (WriteText text width) among = tt
+  action_home roots (Do p os to) among = tt
 
   -- and what a call names
   call_home : (roots : List Root) (call : Operands) → AreAmong (with_call roots call) (roots_of x) → HaveGiven core r (frame_of core r x) call.given × HasReceiver core r (frame_of core r x) call.receiver

@@ -9,7 +9,7 @@ use Rattle.op_expand.specs.Frames.{parameters_of}
 use Rattle.op_expand.specs.Homes.{is_one_root, roots_of}
 use Rattle.op_meaning.specs.Expressions.{result_of}
 use Rattle.op_meaning.specs.Shapes.{type_of_local, variables_of}
-use Rattle.op_mir.specs.declared.action.Action.TheVariants.{Constant, Load, Store, Copy, Look, BeginWith, Pick, Compute, Write, WriteText}
+use Rattle.op_mir.specs.declared.action.Action.TheVariants.{Constant, Load, Store, Copy, Look, BeginWith, Pick, Compute, Do}
 use Rattle.op_mir.specs.declared.action.Action.{Action}
 use Rattle.op_mir.specs.declared.code.Routine.{Routine}
 use Rattle.op_mir.specs.declared.ids.LocalId.{LocalId}
@@ -65,8 +65,7 @@ MayAct core r (Look at) = MayBeNamed core r at.root
 MayAct core r (BeginWith v) = Unit {0}
 MayAct core r (Pick to text index) = Unit {0}
 MayAct core r (Compute c) = Unit {0}
-MayAct core r (Write w) = Unit {0}
-MayAct core r (WriteText text width) = Unit {0}
+MayAct core r (Do p operands to) = Unit {0}
 
 abbrev pub NamesFit : Core → (r : ℕ) → Instruction → Type 0
 NamesFit core r (Act a landing) = MayAct core r a

@@ -4,6 +4,7 @@ pub mod Coding
 pub mod Fitting
 pub mod Framing
 pub mod Handing
+pub mod Primitives
 pub mod Settings
 pub mod Stands
 pub mod Starting

@@ -22,7 +22,7 @@ use Rattle.op_low.specs.declared.code.Low.{Low}
 use Rattle.op_meaning.specs.Shapes.{composite, no_type, shape_of, type_of_local, variables_of}
 use Rattle.op_mir.specs.Machine.{Code}
 use Rattle.op_mir.specs.View.{view_of}
-use Rattle.op_mir.specs.declared.action.Action.TheVariants.{Constant, Load, Store, Copy, Look, BeginWith, Pick, Compute, Write, WriteText}
+use Rattle.op_mir.specs.declared.action.Action.TheVariants.{Constant, Load, Store, Copy, Look, BeginWith, Pick, Compute, Do}
 use Rattle.op_mir.specs.declared.action.Action.{Action}
 use Rattle.op_mir.specs.declared.code.Block.{Block}
 use Rattle.op_mir.specs.declared.code.Mir.{Mir}
@@ -143,8 +143,7 @@ HasRoots core r frame (Look at) = IsRooted core r frame at.root
 HasRoots core r frame (BeginWith v) = Unit {0}
 HasRoots core r frame (Pick to text index) = Unit {0}
 HasRoots core r frame (Compute c) = Unit {0}
-HasRoots core r frame (Write w) = Unit {0}
-HasRoots core r frame (WriteText text width) = Unit {0}
+HasRoots core r frame (Do p operands to) = Unit {0}
 
 abbrev pub HasHomes : Core → (r : ℕ) → Frame → Instruction → Type 0
 HasHomes core r frame (Act a landing) = HasRoots core r frame a

@@ -15,11 +15,12 @@ use Rattle.op_core.specs.declared.routine.Variable.{Variable}
 use Rattle.op_core.specs.declared.types.IntegerKind.{IntegerKind}
 use Rattle.op_expand.specs.Calls.{has_closing}
 use Rattle.op_expand.specs.Frames.{parameters_of}
-use Rattle.op_meaning.specs.Actions.{Action, constant, load, store, copy, look, begin_with, pick, arithmetic, compare, negate, complement, invert, absolute, odd, upper, low_bits, check, neighbour, single, span, combine, contains, check_set, write_number, write_truth, write_char, write_text}
+use Rattle.op_meaning.specs.Actions.{Action, constant, load, store, copy, look, begin_with, pick, arithmetic, compare, negate, complement, invert, absolute, odd, upper, low_bits, check, neighbour, single, span, combine, contains, check_set, primitive}
 use Rattle.op_meaning.specs.Expressions.{result_of}
 use Rattle.op_meaning.specs.Items.{Given, by_value, by_reference, by_place, by_copy, Receiver, nowhere, to_temp, to_place}
 use Rattle.op_meaning.specs.Numbers.{fits_word}
 use Rattle.op_meaning.specs.Paths.{Root, in_global, in_local, through, in_temporary, Path, Step, field, element}
+use Rattle.op_meaning.specs.Primitives.{IsApplied, Operand, from_temp, literal_text}
 use Rattle.op_meaning.specs.Shapes.{single, composite, part_type, shape_of, result_of_routine, variables_of, type_of_local, type_of_variable, refers, is_reference}
 use Rattle.op_mir.specs.Valid.{has, action_fits, all_given_fit, receiver_fits}
 use Rattle.op_mir.specs.View.{view_action, view_given, view_receiver}
@@ -74,6 +75,10 @@ pub record PathTo (core : Core) (r : ℕ) (path : Path) (of : TypeId) : Type 0 w
 abbrev pub AreBytes : List ℕ → Type 0
 AreBytes bytes = (k : ℕ) → slice_index bytes k < 2 ^ 8
 
+abbrev pub IsTypedOperand : Operand → Type 0
+IsTypedOperand (from_temp t) = Unit {0}
+IsTypedOperand (literal_text text) = (length text < 2 ^ 31) × AreBytes text
+
 abbrev pub IsTypedAction : Core → ℕ → Action → Type 0
 IsTypedAction core r (constant to n) = FitsSigned w32 n
 IsTypedAction core r (load to kind from) = (of : TypeId) × (shape_of core of ≡ single kind) × PathTo core r from of
@@ -98,10 +103,7 @@ IsTypedAction core r (span to a b) = Unit {0}
 IsTypedAction core r (combine o to a b) = Unit {0}
 IsTypedAction core r (contains to a b) = Unit {0}
 IsTypedAction core r (check_set all to a) = Unit {0}
-IsTypedAction core r (write_number from width) = Unit {0}
-IsTypedAction core r (write_truth from width) = Unit {0}
-IsTypedAction core r (write_char from width) = Unit {0}
-IsTypedAction core r (write_text text width) = (length text < 2 ^ 31) × AreBytes text
+IsTypedAction core r (primitive p operands to) = IsApplied IsTypedOperand p operands to
 
 -- ---- calls
 

@@ -8,7 +8,9 @@ use Rattle.op_core.specs.declared.routine.Variable.{Variable}
 use Rattle.op_meaning.specs.Shapes.{Shape, composite, shape_of, type_of_local}
 use Rattle.op_mir.specs.View.{first_at}
 use Rattle.op_mir.specs.declared.action.Action.{Action}
-use Rattle.op_mir.specs.declared.action.Action.TheVariants.{BeginWith, Pick, WriteText}
+use Rattle.op_mir.specs.declared.action.Action.TheVariants.{BeginWith, Pick, Do}
+use Rattle.op_mir.specs.declared.action.Operand.{Operand}
+use Rattle.op_mir.specs.declared.action.Operand.TheVariants.{Number, Literal}
 use Rattle.op_mir.specs.declared.code.Block.{Block}
 use Rattle.op_mir.specs.declared.code.Mir.{Mir}
 use Rattle.op_mir.specs.declared.code.Routine.{Routine}
@@ -31,9 +33,17 @@ abbrev pub first_literals : Shape → List ℕ → List (List ℕ)
 first_literals composite bytes = if are_zeros bytes then [] else bytes ∷ []
 first_literals _ bytes = []
 
--- of a routine with the number: what is written, what a Char is picked from, and what a variable begins with
+abbrev pub operand_literals : Operand → List (List ℕ)
+operand_literals (Number t) = []
+operand_literals (Literal text) = text ∷ []
+
+abbrev pub operands_literals : List Operand → List (List ℕ)
+operands_literals [] = []
+operands_literals (o ∷ os) = operand_literals o ++ operands_literals os
+
+-- of a routine with the number: what a primitive takes, what a Char is picked from, and what a variable begins with
 abbrev pub action_literals : Core → ℕ → Action → List (List ℕ)
-action_literals core r (WriteText text width) = text ∷ []
+action_literals core r (Do p operands to) = operands_literals operands
 action_literals core r (Pick to text index) = text ∷ []
 action_literals core r (BeginWith v) = first_literals (shape_of core (type_of_local core r v.0)) (first_bytes core (type_of_local core r v.0) (first_at core r v.0))
 action_literals core r _ = []

@@ -5,14 +5,14 @@ ghost use Rattle.op_meaning.specs.Shapes.{type_of_local, variables_of};
 ghost use Rattle.op_mir.specs.declared.action.Action.TheVariants.{BeginWith};
 ghost use Rattle.op_constants.specs.FirstBytes.{first_bytes};
 ghost use Rattle.op_constants.specs.Keeping.{with_block, with_instruction, with_routine, with_text, with_texts};
-ghost use Rattle.op_constants.specs.Literals.{action_literals, first_of_row, literals_of};
+ghost use Rattle.op_constants.specs.Literals.{action_literals, first_of_row, literals_of, operands_literals};
 
 use crate::first_value::{are_zeros, first_bytes, zeros};
 use crate::fixed::fixed_literals;
 use crate::texts::Texts;
 use op_base::{NoMemory, Text};
 use op_core::{Core, RoutineId, TypeId, Variable};
-use op_mir::{Action, Block, Instruction, LocalId, Mir, Routine, is_composite};
+use op_mir::{Action, Block, Instruction, LocalId, Mir, Operand, Routine, is_composite};
 use std::alloc::Global;
 
 /// The literals of a program: those that every program has, and the different texts that its code takes besides.
@@ -95,11 +95,23 @@ fn keep_action(
     ensures { OnOk result (texts.new ≡ with_texts texts.old (action_literals core.now routine.0 action.now)) }
 {
     match action {
-        Action::WriteText { text, .. } => texts.keep(text.as_slice()),
+        Action::Do { operands, .. } => keep_operands(operands.as_slice(), texts),
         Action::Pick { text, .. } => texts.keep(text.as_slice()),
         Action::BeginWith { variable } => keep_first_value(alloc, core, routine, *variable, texts),
         _ => Ok(()),
     }
+}
+
+/// The literals among operands.
+fn keep_operands(operands: &[Operand], texts: &mut Texts) -> Result<(), NoMemory>
+    ensures { OnOk result (texts.new ≡ with_texts texts.old (operands_literals operands.now)) }
+{
+    for operand in operands {
+        if let Operand::Literal(text) = operand {
+            texts.keep(text.as_slice())?;
+        }
+    }
+    Ok(())
 }
 
 /// What a variable begins with, where it has parts and does not begin as zero.

@@ -12,18 +12,21 @@ use Rattle.op_core.specs.declared.ids.TypeId.{TypeId}
 use Rattle.op_core.specs.declared.program.Core.{Core}
 use Rattle.op_frames.proofs.PlacesFine.{most_each}
 use Rattle.op_frames.specs.Made.{Every}
-use Rattle.op_lower.specs.Temporaries.{in_action, in_computation, in_path, in_step, in_writing, up_to}
-use Rattle.op_meaning.specs.Actions.{Action as MeantAction, constant, load, store, copy, look, begin_with, pick, arithmetic, compare, negate, complement, invert, absolute, odd, upper, low_bits, check, neighbour, single, span, combine, contains, check_set, write_number, write_truth, write_char, write_text}
+use Rattle.op_lower.specs.Temporaries.{in_action, in_computation, in_destination, in_operand, in_path, in_step, up_to}
+use Rattle.op_meaning.specs.Actions.{Action as MeantAction, constant, load, store, copy, look, begin_with, pick, arithmetic, compare, negate, complement, invert, absolute, odd, upper, low_bits, check, neighbour, single, span, combine, contains, check_set, primitive}
 use Rattle.op_core.specs.Sizes.{type_at}
 use Rattle.op_meaning.specs.Shapes.{part_type, variables_of}
-use Rattle.op_mir.specs.Valid.{action_fits, computation_fits, copy_fits, has, has_three, has_two, load_fits, path_fits, root_fits, step_fits, writing_fits}
+use Rattle.op_meaning.specs.Primitives.{EachOperand, Operand as MeantOperand, from_temp, literal_text}
+use Rattle.op_mir.specs.Valid.{action_fits, computation_fits, copy_fits, destination_fits, has, has_three, has_two, load_fits, operand_fits, path_fits, root_fits, step_fits}
 use Rattle.op_mir.specs.View.{view_action, view_path, view_root, view_step}
 use Rattle.op_mir.specs.declared.action.Action.{Action}
-use Rattle.op_mir.specs.declared.action.Action.TheVariants.{Constant, Load, Store, Copy, Look, BeginWith, Pick, Compute, Write, WriteText}
+use Rattle.op_mir.specs.declared.action.Action.TheVariants.{Constant, Load, Store, Copy, Look, BeginWith, Pick, Compute, Do}
 use Rattle.op_mir.specs.declared.action.Computation.{Computation}
 use Rattle.op_mir.specs.declared.action.Computation.TheVariants.{Arithmetic, Compare, Negate, Complement, Invert, Absolute, Odd, Upper, LowBits, Check, Neighbour, Single, Span, Combine, Contains, CheckSet}
-use Rattle.op_mir.specs.declared.action.Writing.{Writing}
-use Rattle.op_mir.specs.declared.action.Writing.TheVariants.{Number, Truth, Char}
+use Rattle.op_mir.specs.declared.action.Destination.{Destination}
+use Rattle.op_mir.specs.declared.action.Destination.TheVariants.{Unused, InTemporary}
+use Rattle.op_mir.specs.declared.action.Operand.{Operand}
+use Rattle.op_mir.specs.declared.action.Operand.TheVariants.{Number, Literal}
 use Rattle.op_mir.specs.declared.code.Mir.{Mir}
 use Rattle.op_mir.specs.declared.code.Routine.{Routine}
 use Rattle.op_mir.specs.declared.ids.TemporaryId.{TemporaryId}
@@ -33,8 +36,8 @@ use Rattle.op_mir.specs.declared.path.Root.TheVariants.{Global, Local, Through, 
 use Rattle.op_mir.specs.declared.path.Step.{Step}
 use Rattle.op_mir.specs.declared.path.Step.TheVariants.{Field, Element}
 use Rattle.op_typing.proofs.Rows.{some_and}
-use Rattle.op_typing.specs.Typed.{IsTypedAction as TypedAction, PathTo as TypedPath, RootIs as TypedRoot}
-use Rattle.op_agreement.specs.Typed.{AreBytes, AreSmall, IsTypedAction}
+use Rattle.op_typing.specs.Typed.{IsTypedAction as TypedAction, IsTypedOperand as TypedOperand, PathTo as TypedPath, RootIs as TypedRoot}
+use Rattle.op_agreement.specs.Typed.{AreBytes, AreSmall, IsTypedAction, IsTypedOperand}
 use Rattle.op_correctness.proofs.Places.{path_is, small_steps, variable_is}
 
 -- ---- types
@@ -43,6 +46,11 @@ all_bytes : (text : List ℕ) → All (λ b. b < 256) text → AreBytes text
 all_bytes [] all k = omega arith
 all_bytes (b ∷ text) all zero = All-head (λ b. b < 256) b text all
 all_bytes (b ∷ text) all (suc k) = all_bytes text (All-tail (λ b. b < 256) b text all) k
+
+operands_are : (os : List MeantOperand) → EachOperand TypedOperand os → EachOperand IsTypedOperand os
+operands_are [] each = tt
+operands_are (from_temp t ∷ os) each = (tt, operands_are os each.1)
+operands_are (literal_text text ∷ os) each = ((each.0.0, all_bytes text each.0.1), operands_are os each.1)
 
 module _ (core : Core) (sound : IsSound core) (r : ℕ) where
   pub action_is : (a : MeantAction) → TypedAction core r a → IsTypedAction core r a
@@ -56,7 +64,7 @@ module _ (core : Core) (sound : IsSound core) (r : ℕ) where
   action_is (pick to text index) (short, bytes) = (short, all_bytes text bytes)
   action_is (check low high to a) t = t
   action_is (neighbour distance low high to a) t = t
-  action_is (write_text text width) (short, bytes) = (short, all_bytes text bytes)
+  action_is (primitive p operands to) t = record { sorts = t.sorts; each = operands_are operands t.each; taken = t.taken }
   action_is (arithmetic o checked to a b) t = tt
   action_is (compare o to a b) t = tt
   action_is (negate checked to a) t = tt
@@ -71,9 +79,6 @@ module _ (core : Core) (sound : IsSound core) (r : ℕ) where
   action_is (combine o to a b) t = tt
   action_is (contains to a b) t = tt
   action_is (check_set all to a) t = tt
-  action_is (write_number a width) t = tt
-  action_is (write_truth a width) t = tt
-  action_is (write_char a width) t = tt
 
 -- ---- what is named is there
 
@@ -138,11 +143,16 @@ module _ (core : Core) (sound : IsSound core) (mir : Mir) (r : ℕ) (x : Routine
   computation_there (Contains to a b) low = three_there to a b low
   computation_there (CheckSet all to a) low = two_there to a low
 
-  writing_there : (y : Writing) → in_writing y ≤ x.temporaries → writing_fits x y ≡ true
-  unfolding writing_fits in_writing
-  writing_there (Number a width) low = two_there a width low
-  writing_there (Truth a width) low = two_there a width low
-  writing_there (Char a width) low = two_there a width low
+  operands_there : (os : List Operand) → Every (λ o. in_operand o ≤ x.temporaries) os → list_all (operand_fits x) os ≡ true
+  unfolding operand_fits in_operand
+  operands_there [] low = refl
+  operands_there (Number t ∷ os) low = and_from (has x t) (list_all (operand_fits x) os) (has_it t low.0) (operands_there os low.1)
+  operands_there (Literal text ∷ os) low = operands_there os low.1
+
+  destination_there : (to : Destination) → in_destination to ≤ x.temporaries → destination_fits x to ≡ true
+  unfolding destination_fits in_destination
+  destination_there Unused low = refl
+  destination_there (InTemporary t) low = has_it t low
 
   move_there : (t : TemporaryId) (path : Path) (of : TypeId) → TypedPath core r (view_path path) of → max (up_to t) (in_path path) ≤ x.temporaries → load_fits mir x t path ≡ true
   unfolding load_fits
@@ -160,5 +170,4 @@ module _ (core : Core) (sound : IsSound core) (mir : Mir) (r : ℕ) (x : Routine
   action_there (BeginWith v) (variable, small, solid, fits) low = lt-ltb v.0 x.locals (let few = variable.0 in omega arith)
   action_there (Pick to text index) t low = two_there to index low
   action_there (Compute c) t low = computation_there c low
-  action_there (Write y) t low = writing_there y low
-  action_there (WriteText text width) t low = has_it width low
+  action_there (Do p os to) t low = and_from (list_all (operand_fits x) os) (destination_fits x to) (operands_there os (most_each in_operand os x.temporaries (omega (arith, low)))) (destination_there to (omega (arith, low)))

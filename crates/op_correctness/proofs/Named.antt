@@ -30,17 +30,18 @@ use Rattle.op_core.specs.declared.statement.Label.{Label}
 use Rattle.op_core.specs.declared.types.CoreType.TheVariants.{Array, Record}
 use Rattle.op_frames.proofs.SoundSizes.{sizes_small}
 use Rattle.op_frames.specs.Made.{Every, IsCode}
-use Rattle.op_frames.specs.Named.{IsNamed, IsNamedAction, IsNamedArm, IsNamedCall, IsNamedGiven, IsNamedLabel, IsNamedPath, IsNamedReceiver, IsNamedRoot, IsNamedStep, fields_offset}
-use Rattle.op_meaning.specs.Actions.{Action, constant, load, store, copy, look, begin_with, pick, arithmetic, compare, negate, complement, invert, absolute, odd, upper, low_bits, check, neighbour, single, span, combine, contains, check_set, write_number, write_truth, write_char, write_text}
+use Rattle.op_frames.specs.Named.{IsNamed, IsNamedAction, IsNamedArm, IsNamedCall, IsNamedGiven, IsNamedLabel, IsNamedOperand, IsNamedPath, IsNamedReceiver, IsNamedRoot, IsNamedStep, fields_offset}
+use Rattle.op_meaning.specs.Actions.{Action, constant, load, store, copy, look, begin_with, pick, arithmetic, compare, negate, complement, invert, absolute, odd, upper, low_bits, check, neighbour, single, span, combine, contains, check_set, primitive}
 use Rattle.op_meaning.specs.Items.{Given, by_value, by_reference, by_place, by_copy, Receiver, nowhere, to_temp, to_place}
 use Rattle.op_meaning.specs.Paths.{Path, Root, in_global, in_local, through, in_temporary, Step, field, element}
+use Rattle.op_meaning.specs.Primitives.{EachOperand, Operand, from_temp, literal_text}
 use Rattle.op_meaning.specs.Shapes.{part_type, shape_of}
 use Rattle.op_mir.specs.Code.{Arm, Instr, do_act, do_call, jump, when, unless, switch, dispatch, make_due, stop, ret}
 use Rattle.op_typing.proofs.Rows.{some_and}
 use Rattle.op_typing.proofs.Storing.{result_number}
 use Rattle.op_typing.proofs.Types.{range_words}
 use Rattle.op_typing.specs.Simple.{IsSimpleProgram}
-use Rattle.op_typing.specs.Typed.{AreTypedBlocks, AreTypedGiven, AreTypedInstrs, AreWords, IsTypedAction, IsTypedCall, IsTypedGiven, IsTypedInstr, IsTypedReceiver, PathTo, RootIs}
+use Rattle.op_typing.specs.Typed.{AreTypedBlocks, AreTypedGiven, AreTypedInstrs, AreWords, IsTypedAction, IsTypedCall, IsTypedGiven, IsTypedInstr, IsTypedOperand, IsTypedReceiver, PathTo, RootIs}
 use Rattle.op_agreement.proofs.FirstNumbers.{first_fits, number_fits}
 use Rattle.op_correctness.specs.Targets.{IsTargetNumber, IsTargeted}
 
@@ -137,6 +138,11 @@ module _ (core : Core) (sound : IsSound core) where
   first_word : (of : TypeId) (value : FirstValue) → FirstFits core of value → is_composite (shape_of core of) ≡ false → FitsSigned w32 (first_number value)
   first_word of value fits whole = number_fits _ (first_number value) (first_fits core of value (shape_of core of) refl whole fits)
 
+  operands_named : (os : List Operand) → EachOperand IsTypedOperand os → EachOperand IsNamedOperand os
+  operands_named [] each = tt
+  operands_named (from_temp t ∷ os) each = (tt, operands_named os each.1)
+  operands_named (literal_text text ∷ os) each = (text_word (length text) each.0.0, operands_named os each.1)
+
   -- So does an action.
   pub action_named : (r : ℕ) (a : Action) → IsTypedAction core r a → IsNamedAction core a
   action_named r (constant to n) t = t
@@ -148,7 +154,7 @@ module _ (core : Core) (sound : IsSound core) where
   action_named r (pick to text index) (short, bytes) = text_word (length text) short
   action_named r (neighbour distance low high to a) t = t.0
   action_named r (check_set all to a) t = others_word all
-  action_named r (write_text text width) (short, bytes) = text_word (length text) short
+  action_named r (primitive p operands to) t = record { sorts = t.sorts; each = operands_named operands t.each; taken = t.taken }
   action_named r (arithmetic o checked to a b) t = tt
   action_named r (compare o to a b) t = tt
   action_named r (negate checked to a) t = tt
@@ -163,9 +169,6 @@ module _ (core : Core) (sound : IsSound core) where
   action_named r (span to a b) t = tt
   action_named r (combine o to a b) t = tt
   action_named r (contains to a b) t = tt
-  action_named r (write_number a width) t = tt
-  action_named r (write_truth a width) t = tt
-  action_named r (write_char a width) t = tt
 
   -- ---- calls
 

@@ -1,2 +1,3 @@
+pub mod PrimitiveRows
 pub mod RoomLemmas
 pub mod SameCharges

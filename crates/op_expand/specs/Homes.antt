@@ -14,7 +14,7 @@ use Rattle.op_expand.specs.declared.homes.Keeping.TheVariants.{AsGiven, InRegist
 use Rattle.op_expand.specs.declared.homes.Room.{Room}
 use Rattle.op_meaning.specs.Shapes.{is_reference, shape_of}
 use Rattle.op_mir.specs.declared.action.Action.{Action}
-use Rattle.op_mir.specs.declared.action.Action.TheVariants.{Constant, Load, Store, Copy, Look, BeginWith, Pick, Compute, Write, WriteText}
+use Rattle.op_mir.specs.declared.action.Action.TheVariants.{Constant, Load, Store, Copy, Look, BeginWith, Pick, Compute, Do}
 use Rattle.op_mir.specs.declared.code.Block.{Block}
 use Rattle.op_mir.specs.declared.code.Routine.{Routine}
 use Rattle.op_mir.specs.declared.ids.LocalId.{LocalId}
@@ -71,8 +71,7 @@ with_action roots (Look at) = with_temporary roots at.root
 with_action roots (BeginWith v) = roots
 with_action roots (Pick to text index) = roots
 with_action roots (Compute c) = roots
-with_action roots (Write w) = roots
-with_action roots (WriteText text width) = roots
+with_action roots (Do p operands to) = roots
 
 abbrev pub with_instruction : List Root → Instruction → List Root
 with_instruction roots (Act action landing) = with_action roots action

@@ -4,6 +4,7 @@ pub mod Frames
 pub mod Homes
 pub mod Moves
 pub mod Places
+pub mod Primitives
 pub mod Programs
 pub mod Registers
 pub mod Routines

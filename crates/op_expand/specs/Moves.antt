@@ -16,6 +16,7 @@ use Rattle.op_core.specs.declared.types.IntegerKind.{IntegerKind}
 use Rattle.op_core.specs.declared.types.IntegerKind.TheVariants.{Signed8, Unsigned8, Signed16, Unsigned16, Signed32}
 use Rattle.op_expand.specs.Homes.{rounded}
 use Rattle.op_expand.specs.Places.{home_of, place_code, place_of}
+use Rattle.op_expand.specs.Primitives.{primitive_code}
 use Rattle.op_expand.specs.declared.frame.Frame.{Frame}
 use Rattle.op_expand.specs.declared.homes.Home.{Home}
 use Rattle.op_expand.specs.declared.homes.Home.TheVariants.{Held}
@@ -26,15 +27,13 @@ use Rattle.op_low.specs.declared.instruction.Instruction.TheVariants.{Const, Add
 use Rattle.op_meaning.specs.Shapes.{shape_of, type_of_row}
 use Rattle.op_meaning.specs.Statements.{kind_of}
 use Rattle.op_mir.specs.declared.action.Action.{Action}
-use Rattle.op_mir.specs.declared.action.Action.TheVariants.{Constant, Load, Store, Copy, Look, BeginWith, Pick, Compute, Write, WriteText}
-use Rattle.op_mir.specs.declared.action.Writing.{Writing}
-use Rattle.op_mir.specs.declared.action.Writing.TheVariants.{Number, Truth, Char}
+use Rattle.op_mir.specs.declared.action.Action.TheVariants.{Constant, Load, Store, Copy, Look, BeginWith, Pick, Compute, Do}
 use Rattle.op_mir.specs.declared.ids.LocalId.{LocalId}
 use Rattle.op_mir.specs.declared.path.Path.{Path}
 use Rattle.op_mir.specs.declared.path.Root.{Root}
 use Rattle.op_mir.specs.declared.path.Root.TheVariants.{Local}
 use Rattle.op_mir.specs.declared.path.Step.{Step}
-use Rattle.op_rt_text.specs.Names.{call, clear_number, copy_bytes_number, copy_words_number, literal, take_number, write_bytes_number, write_char_number, write_number_number, write_truth_number}
+use Rattle.op_rt_text.specs.Names.{call, clear_number, copy_bytes_number, copy_words_number, literal, take_number}
 use Rattle.op_rv.specs.Operation.{word_from}
 use Rattle.op_rv.specs.declared.instruction.AluOp.TheVariants.{Add}
 use Rattle.op_rv.specs.declared.instruction.BranchOp.TheVariants.{Bgeu}
@@ -215,21 +214,6 @@ pick_code frame id to size index =
     ∷ LoadWord Lbu to place (pos 0)
     ∷ []
 
-abbrev pub text_code : Frame → (id : ℕ) → (size : ℕ) → (width : VirtualRegister) → List Instruction
-text_code frame id size width =
-    let address = scratch_of frame.bank 0 in
-    let count = scratch_of frame.bank 1 in
-    Address address (literal id) ∷ Const count size ∷ call write_bytes_number (address ∷ count ∷ width ∷ []) address ∷ []
-
--- by the run-time routine with this number
-abbrev pub written_by : Frame → (routine : ℕ) → (from width : VirtualRegister) → List Instruction
-written_by frame routine from width = call routine (from ∷ width ∷ []) (scratch_of frame.bank 0) ∷ []
-
-abbrev pub writing_code : Frame → Writing → List Instruction
-writing_code frame (Number from width) = written_by frame write_number_number (register_of frame.bank from) (register_of frame.bank width)
-writing_code frame (Truth from width) = written_by frame write_truth_number (register_of frame.bank from) (register_of frame.bank width)
-writing_code frame (Char from width) = written_by frame write_char_number (register_of frame.bank from) (register_of frame.bank width)
-
 -- ---- actions, where these texts are the literals
 
 abbrev pub action_code : Core → Frame → (texts : List (List ℕ)) → Action → List Instruction
@@ -241,5 +225,4 @@ action_code core frame texts (Look at) = place_code core frame near at.root at.s
 action_code core frame texts (BeginWith v) = begun_code core frame texts v
 action_code core frame texts (Pick to text index) = pick_code frame (number_of texts text) (register_of frame.bank to) (length text) (register_of frame.bank index)
 action_code core frame texts (Compute c) = computation_code frame.bank c
-action_code core frame texts (Write w) = writing_code frame w
-action_code core frame texts (WriteText text width) = text_code frame (number_of texts text) (length text) (register_of frame.bank width)
+action_code core frame texts (Do p operands to) = primitive_code frame texts p operands to

@@ -1,6 +1,6 @@
 //! The code of actions.
 ghost use Rattle.op_compute.specs.Bank.{register_of, scratch_of};
-ghost use Rattle.op_expand.specs.Moves.{action_code, begun_by, begun_code, composite_begun, number_begun, parts_begun, pick_code, row_of, text_code, writing_code, written_by, zeros_begun};
+ghost use Rattle.op_expand.specs.Moves.{action_code, begun_by, begun_code, composite_begun, number_begun, parts_begun, pick_code, row_of, zeros_begun};
 ghost use Rattle.op_constants.specs.FirstBytes.{first_number};
 ghost use Rattle.op_constants.specs.Literals.{first_of_row};
 ghost use Rattle.op_constants.specs.Texts.{number_of};
@@ -13,6 +13,7 @@ use crate::frame::Frame;
 use crate::homes::round;
 use crate::number::{NEAR, kind_of, push_load_from, push_store_to};
 use crate::place::push_place;
+use crate::primitive::push_primitive;
 use crate::push::{push_address, push_call, push_load};
 use op_base::NoMemory;
 use op_compute::{
@@ -21,9 +22,9 @@ use op_compute::{
 use op_constants::{Texts, are_zeros, bytes_of_row, first_number, is_composite, size_of};
 use op_core::{Core, IntegerKind, TypeId, Variable};
 use op_low::{Instruction, VirtualRegister};
-use op_mir::{Action, LocalId, Root, TemporaryId, Writing};
-use op_rt_text::{CLEAR, WRITE_BYTES, WRITE_CHAR, WRITE_NUMBER, WRITE_TRUTH};
-use op_rv::{AluOp, BranchOp, ImmOp, LiteralId, LoadOp, RoutineId, Symbol};
+use op_mir::{Action, LocalId, Root, TemporaryId};
+use op_rt_text::CLEAR;
+use op_rv::{AluOp, BranchOp, ImmOp, LiteralId, LoadOp, Symbol};
 use std::alloc::Global;
 
 /// What an action does, where these are the literals.
@@ -81,10 +82,19 @@ pub fn push_action(
             push_pick(code, frame, literals, *to, text.as_slice(), *index)
         }
         Action::Compute(computation) => compute(code, bank, *computation),
-        Action::Write(writing) => push_writing(alloc, code, frame, *writing),
-        Action::WriteText { text, width } => {
-            push_text(alloc, code, frame, literals, text.as_slice(), *width)
-        }
+        Action::Do {
+            primitive,
+            operands,
+            to,
+        } => push_primitive(
+            alloc,
+            code,
+            frame,
+            literals,
+            *primitive,
+            operands.as_slice(),
+            *to,
+        ),
     }
 }
 
@@ -253,14 +263,14 @@ fn push_parts_begun(
 }
 
 /// A length of less than 2^32 bytes.
-fn length(bytes: usize) -> Result<u32, NoMemory>
+pub(crate) fn length(bytes: usize) -> Result<u32, NoMemory>
     ensures { IfOk result (λ n. n ≡ bytes) }
 {
     u32::try_from(bytes).ok().ok_or(NoMemory)
 }
 
 /// The number of a literal.
-fn number_in(literals: &Texts, text: &[u8]) -> Result<u32, NoMemory>
+pub(crate) fn number_in(literals: &Texts, text: &[u8]) -> Result<u32, NoMemory>
     ensures { IfOk result (λ n. n ≡ number_of literals.now text.now) }
 {
     length(literals.number_of(text))
@@ -291,60 +301,4 @@ fn push_pick(
     )?;
     push_alu(code, AluOp::Add, place, via, place)?;
     push_load(code, LoadOp::Lbu, bank.temporary(to)?, place, 0)
-}
-
-fn push_text(
-    alloc: Global,
-    code: &mut Vec<Instruction>,
-    frame: &Frame,
-    literals: &Texts,
-    text: &[u8],
-    width: TemporaryId,
-) -> Result<(), NoMemory>
-    ensures { OnOk result (code.new.items ≡ code.old.items ++ text_code frame.now (number_of literals.now text.now) (length text.now) (register_of frame.now.bank width)) }
-{
-    let address = frame.bank.scratch(0)?;
-    let count = frame.bank.scratch(1)?;
-    push_address(
-        code,
-        address,
-        Symbol::Literal(LiteralId(number_in(literals, text)?)),
-    )?;
-    push_const(code, count, length(text.len())?)?;
-    let arguments = vec![in alloc; address, count, frame.bank.temporary(width)?]?;
-    push_call(code, WRITE_BYTES, arguments, address)
-}
-
-fn push_writing(
-    alloc: Global,
-    code: &mut Vec<Instruction>,
-    frame: &Frame,
-    writing: Writing,
-) -> Result<(), NoMemory>
-    ensures { OnOk result (code.new.items ≡ code.old.items ++ writing_code frame.now writing) }
-{
-    match writing {
-        Writing::Number { from, width } => {
-            push_written(alloc, code, frame, WRITE_NUMBER, from, width)
-        }
-        Writing::Truth { from, width } => {
-            push_written(alloc, code, frame, WRITE_TRUTH, from, width)
-        }
-        Writing::Char { from, width } => push_written(alloc, code, frame, WRITE_CHAR, from, width),
-    }
-}
-
-fn push_written(
-    alloc: Global,
-    code: &mut Vec<Instruction>,
-    frame: &Frame,
-    routine: RoutineId,
-    from: TemporaryId,
-    width: TemporaryId,
-) -> Result<(), NoMemory>
-    ensures { OnOk result (code.new.items ≡ code.old.items ++ written_by frame.now routine.0 (register_of frame.now.bank from) (register_of frame.now.bank width)) }
-{
-    let bank = frame.bank;
-    let arguments = vec![in alloc; bank.temporary(from)?, bank.temporary(width)?]?;
-    push_call(code, routine, arguments, bank.scratch(0)?)
 }

@@ -16,6 +16,7 @@ mod global;
 mod homes;
 mod number;
 mod place;
+mod primitive;
 mod program;
 mod push;
 mod receive;

@@ -32,7 +32,7 @@ use Rattle.op_meaning.specs.Statements.{first_items, work_of, work_of_all}
 use Rattle.op_mir.specs.Code.{Instr, do_act, jump, ret}
 use Rattle.op_mir.specs.View.{view_block, view_instruction}
 use Rattle.op_mir.specs.declared.action.Action.{Action}
-use Rattle.op_mir.specs.declared.action.Action.TheVariants.{Constant, Load, Store, Copy, Look, BeginWith, Pick, Compute, Write, WriteText}
+use Rattle.op_mir.specs.declared.action.Action.TheVariants.{Constant, Load, Store, Copy, Look, BeginWith, Pick, Compute, Do}
 use Rattle.op_mir.specs.declared.code.Block.{Block}
 use Rattle.op_mir.specs.declared.code.Routine.{Routine}
 use Rattle.op_mir.specs.declared.ids.BlockId.{BlockId}
@@ -58,8 +58,7 @@ module _ (core : Core) (r : ℕ) (frame : Frame) where
   room_two (Act (Look at) landing) = omega arith
   room_two (Act (Pick to text index) landing) = omega arith
   room_two (Act (Compute c) landing) = omega arith
-  room_two (Act (Write w) landing) = omega arith
-  room_two (Act (WriteText text width) landing) = omega arith
+  room_two (Act (Do p operands to) landing) = omega arith
   room_two (Call f operands) = omega arith
   room_two (Jump block) = omega arith
   room_two (When t block) = omega arith
@@ -148,8 +147,7 @@ module _ (core : Core) (r : ℕ) where
   action_roots (Constant to k) landing p roots = refl
   action_roots (Pick to text index) landing p roots = refl
   action_roots (Compute c) landing p roots = refl
-  action_roots (Write w) landing p roots = refl
-  action_roots (WriteText text width) landing p roots = refl
+  action_roots (Do q operands to) landing p roots = refl
 
   instruction_roots : (i : Instruction) → IsBeginning core r (view_instruction core r i) → (roots : List Root) → with_instruction roots i ≡ roots
   instruction_roots (Act a landing) p roots = action_roots a landing p roots
@@ -225,8 +223,7 @@ module _ (core : Core) (r : ℕ) (routine : Routine) (none : roots_of routine �
   room_one (Act (Look at) landing) p = omega arith
   room_one (Act (Pick to text index) landing) p = omega arith
   room_one (Act (Compute c) landing) p = omega arith
-  room_one (Act (Write w) landing) p = omega arith
-  room_one (Act (WriteText text width) landing) p = omega arith
+  room_one (Act (Do q operands to) landing) p = omega arith
   room_one (Call f operands) p = omega arith
   room_one (Jump block) p = omega arith
   room_one (When t block) p = omega arith

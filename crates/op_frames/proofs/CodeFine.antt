@@ -18,7 +18,7 @@ use Rattle.op_expand.specs.Calls.{left, result_address, number_code, parts_code,
 use Rattle.op_expand.specs.Frames.{frame_of}
 use Rattle.op_expand.specs.Homes.{parameter}
 use Rattle.op_expand.specs.Places.{at_register, place_code, place_of}
-use Rattle.op_expand.specs.Moves.{action_code, by_words, bytes_code, composite_begun, limit_of, load_code, begun_by, begun_code, held, near, number_begun, parts_begun, row_of, writing_code, zeros_begun}
+use Rattle.op_expand.specs.Moves.{action_code, by_words, bytes_code, composite_begun, limit_of, load_code, begun_by, begun_code, held, near, number_begun, parts_begun, row_of, zeros_begun}
 use Rattle.op_expand.specs.Routines.{instruction_code, code_of}
 use Rattle.op_expand.specs.declared.frame.Frame.{Frame}
 use Rattle.op_expand.specs.declared.frame.Returning.{Returning}
@@ -26,7 +26,7 @@ use Rattle.op_expand.specs.declared.frame.Returning.TheVariants.{Ending, Nothing
 use Rattle.op_frames.proofs.CallsFine.{CanReturn, TakesClosing, call_fine, due_fine, return_fine, stop_fine}
 use Rattle.op_frames.proofs.ComputingFine.{IsArm, HasWord, joined, constant_fine, true_fine, false_fine, switch_fine, dispatch_fine}
 use Rattle.op_frames.proofs.Fine.{Bounds, Below, AreFine}
-use Rattle.op_frames.proofs.MovesFine.{HasRuntime, zeros_begun_fine, load_fine, store_fine, copy_fine, path_fine, number_begun_fine, number_held_fine, parts_begun_fine, pick_fine, text_fine, register_below, written_fine, the_work, computation_fine}
+use Rattle.op_frames.proofs.MovesFine.{HasRuntime, zeros_begun_fine, load_fine, store_fine, copy_fine, path_fine, number_begun_fine, number_held_fine, parts_begun_fine, pick_fine, primitive_fine, register_below, the_work, computation_fine}
 use Rattle.op_frames.proofs.PlacesFine.{IsFrame, Temporaries}
 use Rattle.op_frames.specs.Made.{Every, IsLast, Leaves}
 use Rattle.op_frames.specs.Named.{IsNamed, IsNamedAction, IsNamedArm, IsNamedLabel}
@@ -36,16 +36,14 @@ use Rattle.op_low.specs.declared.code.Low.{Low}
 use Rattle.op_low.specs.declared.ids.VirtualRegister.{VirtualRegister}
 use Rattle.op_low.specs.declared.instruction.Instruction.{Instruction as LowInstruction}
 use Rattle.op_low.specs.declared.instruction.Instruction.TheVariants.{Jump as LowJump, Return as LowReturn, Const, Exit}
-use Rattle.op_lower.specs.Temporaries.{in_action, in_instruction, in_writing}
+use Rattle.op_lower.specs.Temporaries.{in_action, in_instruction}
 use Rattle.op_meaning.specs.Shapes.{Shape, single, composite, of_chars, of_elements, of_instance, shape_of, type_of_local, type_of_row, variables_of}
 use Rattle.op_meaning.specs.Statements.{kind_of}
-use Rattle.op_mir.specs.View.{first_at, view_action, view_arm, view_computation, view_instruction, view_writing}
+use Rattle.op_mir.specs.View.{first_at, view_action, view_arm, view_computation, view_instruction}
 use Rattle.op_mir.specs.declared.action.Action.{Action}
-use Rattle.op_mir.specs.declared.action.Action.TheVariants.{Constant, Load, Store, Copy, Look, BeginWith, Pick, Compute, Write, WriteText}
+use Rattle.op_mir.specs.declared.action.Action.TheVariants.{Constant, Load, Store, Copy, Look, BeginWith, Pick, Compute, Do}
 use Rattle.op_mir.specs.declared.action.Computation.{Computation}
 use Rattle.op_mir.specs.declared.action.Computation.TheVariants.{Arithmetic, Compare, Negate, Complement, Invert, Absolute, Odd, Upper, LowBits, Check, Neighbour, Single, Span, Combine, Contains, CheckSet}
-use Rattle.op_mir.specs.declared.action.Writing.{Writing}
-use Rattle.op_mir.specs.declared.action.Writing.TheVariants.{Number, Truth, Char}
 use Rattle.op_mir.specs.declared.code.Mir.{Mir}
 use Rattle.op_mir.specs.declared.code.Routine.{Routine}
 use Rattle.op_mir.specs.declared.ids.BlockId.{BlockId as ManagedBlock}
@@ -54,7 +52,7 @@ use Rattle.op_mir.specs.declared.instruction.Arm.{Arm}
 use Rattle.op_mir.specs.declared.instruction.Instruction.{Instruction}
 use Rattle.op_mir.specs.declared.instruction.Instruction.TheVariants.{Act, Call, Jump, When, Unless, Switch, Dispatch, MakeDue, Stop, Return}
 use Rattle.op_mir.specs.declared.path.Root.TheVariants.{Local}
-use Rattle.op_rt_text.specs.Names.{register, write_char_number, write_number_number, write_truth_number}
+use Rattle.op_rt_text.specs.Names.{register}
 
 -- ---- what leaves code
 
@@ -191,12 +189,6 @@ module _ (m : Bounds) (core : Core) (r : ℕ) (routine : Routine) (n blocks : �
       begun_by_shape (is_composite (shape_of core (type_of_local core r v.0))) texts v (type_of_local core r v.0) (row_of core (frame_of core r routine) v) (λ e. subst (λ f. FitsSigned w32 (first_number f)) (first_is v) (fits e))
       (λ e. subst (λ f. are_zeros (first_bytes core (type_of_local core r v.0) f) ≡ false → IsNumbered m.low texts (first_bytes core (type_of_local core r v.0) f)) (first_is v) (counted texts v there e)) can.one can.spare can.another
 
-  writing_fine : (w : Writing) → in_writing w ≤ n → (frame_of core r routine).bank.scratch + 1 ≤ m.registers → AreFine m (writing_code (frame_of core r routine) w)
-  unfolding in_writing
-  writing_fine (Number a w) t room = written_fine m core (frame_of core r routine) n is temporaries runtime write_number_number a w (λ others. refl) t room
-  writing_fine (Truth a w) t room = written_fine m core (frame_of core r routine) n is temporaries runtime write_truth_number a w (λ others. refl) t room
-  writing_fine (Char a w) t room = written_fine m core (frame_of core r routine) n is temporaries runtime write_char_number a w (λ others. refl) t room
-
   computation_room : (c : Computation) → action_room (view_computation c) ≡ 3
   computation_room (Arithmetic o checked to a b) = refl
   computation_room (Compare o to a b) = refl
@@ -215,11 +207,6 @@ module _ (m : Bounds) (core : Core) (r : ℕ) (routine : Routine) (n blocks : �
   computation_room (Contains to a b) = refl
   computation_room (CheckSet all to a) = refl
 
-  writing_room : (w : Writing) → action_room (view_writing w) ≡ 1
-  writing_room (Number a w) = refl
-  writing_room (Truth a w) = refl
-  writing_room (Char a w) = refl
-
   action_fine : (texts : List (List ℕ)) (a : Action) → IsNamedAction core (view_action core r a) → in_action a ≤ n → (frame_of core r routine).bank.scratch + action_room (view_action core r a) ≤ m.registers → Every (IsNumbered m.low texts) (action_literals core r a) → CanDo m core (frame_of core r routine) (Act a None) → AreFine m (action_code core (frame_of core r routine) texts a)
   unfolding in_action
   action_fine texts (Constant to k) named t room there can = constant_fine m _ k named (register_below m core (frame_of core r routine) n is temporaries runtime to t)
@@ -230,8 +217,7 @@ module _ (m : Bounds) (core : Core) (r : ℕ) (routine : Routine) (n blocks : �
   action_fine texts (BeginWith v) named t room there can = begun_fine texts v named there can
   action_fine texts (Pick to text index) named t room there can = pick_fine m core (frame_of core r routine) n is temporaries runtime (number_of texts text) _ (length text) _ there.0 named (register_below m core (frame_of core r routine) n is temporaries runtime to (omega (arith, t))) (register_below m core (frame_of core r routine) n is temporaries runtime index (omega (arith, t))) room
   action_fine texts (Compute c) named t room there can = computation_fine m core (frame_of core r routine) n is temporaries runtime r c named t (subst (λ k. (frame_of core r routine).bank.scratch + k ≤ m.registers) (computation_room c) room)
-  action_fine texts (Write w) named t room there can = writing_fine w t (subst (λ k. (frame_of core r routine).bank.scratch + k ≤ m.registers) (writing_room w) room)
-  action_fine texts (WriteText text width) named t room there can = text_fine m core (frame_of core r routine) n is temporaries runtime (number_of texts text) (length text) _ there.0 named (register_below m core (frame_of core r routine) n is temporaries runtime width t) room
+  action_fine texts (Do p os to) named t room there can = primitive_fine m core (frame_of core r routine) n is temporaries runtime texts p os to named t room there
 
   -- the arms of a switch
   labels_words : (ls : List Label) → Every IsNamedLabel ls → Every HasWord ls
@@ -256,8 +242,7 @@ module _ (m : Bounds) (core : Core) (r : ℕ) (routine : Routine) (n blocks : �
       can_act (Look at) landing c = tt
       can_act (Pick to text index) landing c = tt
       can_act (Compute c') landing c = tt
-      can_act (Write w) landing c = tt
-      can_act (WriteText text width) landing c = tt
+      can_act (Do p os to) landing c = tt
   instruction_fine mir texts (Call f operands) named t room there can = call_fine m core (frame_of core r routine) n is temporaries runtime mir f.0 operands named.2 named.3 t room can
   instruction_fine mir texts (Jump block) named t room there can = (omega (arith, named, fewer), tt)
   instruction_fine mir texts (When t block) named c room there can = true_fine m _ (the_work m core (frame_of core r routine) n is temporaries runtime room) _ (register_below m core (frame_of core r routine) n is temporaries runtime t c) block (omega (arith, named, fewer))

@@ -39,13 +39,11 @@ use Rattle.op_mir.proofs.NeedLemmas.{need_is}
 use Rattle.op_mir.specs.FrameNeed.{each_once, roots_named, roots_of_action, roots_of_given, roots_of_instruction, roots_of_receiver, variable_bytes, code_words, first_words, frame_need}
 use Rattle.op_mir.specs.Kinds.{begins, has_kinds, is_begun, of_own}
 use Rattle.op_mir.specs.Valid.{act_fits, action_fits, has_landing, is_valid_block, is_valid_instruction, is_valid_routine, leaves_if}
-use Rattle.op_mir.specs.View.{view_action, view_block, view_computation, view_given, view_instruction, view_receiver, view_root, view_writing}
+use Rattle.op_mir.specs.View.{view_action, view_block, view_computation, view_given, view_instruction, view_receiver, view_root}
 use Rattle.op_mir.specs.declared.action.Action.{Action}
-use Rattle.op_mir.specs.declared.action.Action.TheVariants.{Constant, Load, Store, Copy, Look, BeginWith, Pick, Compute, Write, WriteText}
+use Rattle.op_mir.specs.declared.action.Action.TheVariants.{Constant, Load, Store, Copy, Look, BeginWith, Pick, Compute, Do}
 use Rattle.op_mir.specs.declared.action.Computation.{Computation}
 use Rattle.op_mir.specs.declared.action.Computation.TheVariants.{Arithmetic, Compare, Negate, Complement, Invert, Absolute, Odd, Upper, LowBits, Check, Neighbour, Single, Span, Combine, Contains, CheckSet}
-use Rattle.op_mir.specs.declared.action.Writing.{Writing}
-use Rattle.op_mir.specs.declared.action.Writing.TheVariants.{Number, Truth, Char}
 use Rattle.op_mir.specs.declared.code.Block.{Block}
 use Rattle.op_mir.specs.declared.code.Mir.{Mir}
 use Rattle.op_mir.specs.declared.code.Routine.{Routine}
@@ -125,11 +123,6 @@ computation_in wholes (Combine o to a b) = tt
 computation_in wholes (Contains to a b) = tt
 computation_in wholes (CheckSet all to a) = tt
 
-writing_in : (wholes : List Root) (w : Writing) → ActionIn wholes (view_writing w)
-writing_in wholes (Number a width) = tt
-writing_in wholes (Truth a width) = tt
-writing_in wholes (Char a width) = tt
-
 module _ (core : Core) (wholes : List Root) where
   action_in : (r : ℕ) (a : Action) → Sub (roots_of_action a) wholes → ActionIn wholes (view_action core r a)
   action_in r (Load to kind from) s = first_in wholes from.root [] s
@@ -140,8 +133,7 @@ module _ (core : Core) (wholes : List Root) where
   action_in r (BeginWith v) s = tt
   action_in r (Pick to text index) s = tt
   action_in r (Compute c) s = computation_in wholes c
-  action_in r (Write w) s = writing_in wholes w
-  action_in r (WriteText text width) s = tt
+  action_in r (Do p operands to) s = tt
 
   given_in : (g : Given) → Sub (roots_of_given g) wholes → GivenIn wholes (view_given g)
   given_in (ByPlace path) s = first_in wholes path.root [] s
@@ -289,8 +281,7 @@ module _ (core : Core) (r : ℕ) (v : LocalId) where
   action_kept rs (BeginWith w) e = e
   action_kept rs (Pick to text index) e = e
   action_kept rs (Compute c) e = e
-  action_kept rs (Write w) e = e
-  action_kept rs (WriteText text width) e = e
+  action_kept rs (Do p operands to) e = e
 
   instruction_kept : (rs : List Root) (i : Instruction) → IsNamed (with_instruction rs i) → IsNamed rs ⊎ (2 ≤ room_of_instruction core r i)
   instruction_kept rs (Act a landing) e = inl (action_kept rs a e)
@@ -417,8 +408,7 @@ module _ (core : Core) (mir : Mir) (r : ℕ) (x : Routine) where
     room_one (Act (Look at) landing) e = omega arith
     room_one (Act (Pick to text index) landing) e = omega arith
     room_one (Act (Compute c) landing) e = omega arith
-    room_one (Act (Write w) landing) e = omega arith
-    room_one (Act (WriteText text width) landing) e = omega arith
+    room_one (Act (Do p operands to) landing) e = omega arith
     room_one (Call q call) e = omega arith
     room_one (Jump block) e = omega arith
     room_one (When t block) e = omega arith

@@ -7,19 +7,22 @@ use Rattle.op_frames.specs.Fitting.{room_of_block, room_of_instruction}
 use Rattle.op_frames.specs.Made.{Every, AreMade, IsCode}
 use Rattle.op_frames.specs.Named.{IsNamed}
 use Rattle.op_frames.specs.Scratch.{room_in}
-use Rattle.op_frames.specs.Within.{StepsBelow, ActionBelow, GivenBelow, ReceiverBelow, IsWithin}
+use Rattle.op_frames.specs.Within.{StepsBelow, ActionBelow, DestinationBelow, OperandBelow, GivenBelow, ReceiverBelow, IsWithin}
 use Rattle.op_lower.specs.Lowers.{IsRoutine}
 use Rattle.op_lower.specs.Seen.{seen_blocks}
-use Rattle.op_lower.specs.Temporaries.{most_of, up_to, in_step, in_path, in_computation, in_writing, in_action, in_given, in_receiver, in_call, in_instruction, in_block, in_blocks}
+use Rattle.op_lower.specs.Temporaries.{most_of, up_to, in_step, in_path, in_computation, in_operand, in_destination, in_action, in_given, in_receiver, in_call, in_instruction, in_block, in_blocks}
 use Rattle.op_meaning.specs.Frames.{program_of}
+use Rattle.op_meaning.specs.Primitives.{EachOperand}
 use Rattle.op_mir.specs.Code.{Instr, blocks_of, items_of, jump, ret}
-use Rattle.op_mir.specs.View.{view_block, view_instruction, view_action, view_computation, view_writing, view_given, view_receiver, view_step}
+use Rattle.op_mir.specs.View.{view_block, view_instruction, view_action, view_computation, view_destination, view_operand, view_given, view_receiver, view_step}
 use Rattle.op_mir.specs.declared.action.Action.{Action}
-use Rattle.op_mir.specs.declared.action.Action.TheVariants.{Constant, Load, Store, Copy, Look, BeginWith, Pick, Compute, Write, WriteText}
+use Rattle.op_mir.specs.declared.action.Action.TheVariants.{Constant, Load, Store, Copy, Look, BeginWith, Pick, Compute, Do}
 use Rattle.op_mir.specs.declared.action.Computation.{Computation}
 use Rattle.op_mir.specs.declared.action.Computation.TheVariants.{Arithmetic, Compare, Negate, Complement, Invert, Absolute, Odd, Upper, LowBits, Check, Neighbour, Single, Span, Combine, Contains, CheckSet}
-use Rattle.op_mir.specs.declared.action.Writing.{Writing}
-use Rattle.op_mir.specs.declared.action.Writing.TheVariants.{Number, Truth, Char}
+use Rattle.op_mir.specs.declared.action.Destination.{Destination}
+use Rattle.op_mir.specs.declared.action.Destination.TheVariants.{Unused, InTemporary}
+use Rattle.op_mir.specs.declared.action.Operand.{Operand}
+use Rattle.op_mir.specs.declared.action.Operand.TheVariants.{Number, Literal}
 use Rattle.op_mir.specs.declared.code.Block.{Block}
 use Rattle.op_mir.specs.declared.code.Routine.{Routine}
 use Rattle.op_mir.specs.declared.instruction.Given.{Given}
@@ -97,11 +100,16 @@ module _ (top room : ℕ) where
   computation_under (Contains to a b) p = omega (arith, p.0, p.1, p.2)
   computation_under (CheckSet all to a) p = omega (arith, p.0, p.1)
 
-  writing_under : (w : Writing) → ActionBelow top (view_writing w) → in_writing w ≤ top
-  unfolding in_writing
-  writing_under (Number a w) p = omega (arith, p.0, p.1)
-  writing_under (Truth a w) p = omega (arith, p.0, p.1)
-  writing_under (Char a w) p = omega (arith, p.0, p.1)
+  operands_under : (os : List Operand) → EachOperand (OperandBelow top) (map view_operand os) → Every (λ o. in_operand o ≤ top) os
+  unfolding in_operand
+  operands_under [] p = tt
+  operands_under (Number t ∷ os) p = (omega (arith, p.0), operands_under os p.1)
+  operands_under (Literal text ∷ os) p = (omega arith, operands_under os p.1)
+
+  destination_under : (to : Destination) → DestinationBelow top (view_destination to) → in_destination to ≤ top
+  unfolding in_destination
+  destination_under Unused p = omega arith
+  destination_under (InTemporary t) p = omega (arith, p)
 
   action_under : (core : Core) (r : ℕ) (a : Action) → ActionBelow top (view_action core r a) → in_action a ≤ top
   unfolding in_action
@@ -113,8 +121,10 @@ module _ (top room : ℕ) where
   action_under core r (BeginWith v) p = omega arith
   action_under core r (Pick to text index) p = omega (arith, p.0, p.1)
   action_under core r (Compute c) p = computation_under c p
-  action_under core r (Write w) p = writing_under w p
-  action_under core r (WriteText text width) p = omega (arith, p)
+  action_under core r (Do q os to) p =
+      let all = most_at in_operand os top (operands_under os p.0) in
+      let one = destination_under to p.1 in
+      omega (arith, all, one)
 
   given_under : (g : Given) → GivenBelow top (view_given g) → in_given g ≤ top
   given_under (ByValue kind t) p = omega (arith, p)

@@ -8,7 +8,8 @@ use Rattle.op_compute.specs.Bank.{error_block_of, register_of, scratch_of, work_
 use Rattle.op_compute.specs.Computing.{constant_code, registers_of, code_of, computation_code}
 use Rattle.op_compute.specs.Conversions.{low_bits_code}
 use Rattle.op_constants.specs.FirstBytes.{first_number}
-use Rattle.op_constants.specs.Literals.{first_of_row}
+use Rattle.op_constants.specs.Literals.{first_of_row, operands_literals}
+use Rattle.op_constants.specs.Texts.{number_of}
 use Rattle.op_constants.specs.Offsets.{size_in}
 use Rattle.op_constants.specs.Shapes.{is_composite}
 use Rattle.op_core.specs.declared.ids.TypeId.{TypeId}
@@ -16,8 +17,10 @@ use Rattle.op_core.specs.declared.program.Core.{Core}
 use Rattle.op_core.specs.declared.routine.Variable.{Variable}
 use Rattle.op_core.specs.declared.types.IntegerKind.{IntegerKind}
 use Rattle.op_expand.specs.Homes.{home_at, rounded}
-use Rattle.op_expand.specs.Moves.{load_op, store_op, near, held_by, held, load_code, store_code, by_words, unit_of, units_in, is_short, limit_of, unit_load, unit_store, unit_code, units_code, copy_number, bytes_code, copy_code, number_begun, taken_code, parts_begun, begun_by, begun_code, row_of, pick_code, text_code, written_by, writing_code, action_code, zeros_begun}
+use Rattle.op_expand.specs.Moves.{load_op, store_op, near, held_by, held, load_code, store_code, by_words, unit_of, units_in, is_short, limit_of, unit_load, unit_store, unit_code, units_code, copy_number, bytes_code, copy_code, number_begun, taken_code, parts_begun, begun_by, begun_code, row_of, pick_code, action_code, zeros_begun}
 use Rattle.op_expand.specs.Places.{home_of, place_code, place_of}
+use Rattle.op_expand.proofs.PrimitiveRows.{served}
+use Rattle.op_expand.specs.Primitives.{destination_register, operands_code, operands_passed, primitive_code, routine_of, words_in}
 use Rattle.op_expand.specs.declared.frame.Frame.{Frame}
 use Rattle.op_expand.specs.declared.homes.Home.{Home}
 use Rattle.op_expand.specs.declared.homes.Home.TheVariants.{Held, Stored, Shared}
@@ -26,30 +29,34 @@ use Rattle.op_frames.proofs.ComputingFine.{IsWork, AreOperands, joined, word_of,
 use Rattle.op_frames.proofs.Fine.{Bounds, Below, Leads, IsFine, AreFine}
 use Rattle.op_frames.proofs.PlacesFine.{IsHome, IsFrame, Temporaries, IsSpot, most_each, temporary_below, root_home, place_fine, place_spot, place_near}
 use Rattle.op_frames.specs.Made.{Every}
-use Rattle.op_frames.specs.Named.{IsNamedRoot, IsNamedStep, IsNamedPath, IsNamedAction, fields_offset}
-use Rattle.op_frames.specs.Scratch.{path_room, action_room}
+use Rattle.op_frames.specs.Named.{IsNamedRoot, IsNamedStep, IsNamedPath, IsNamedAction, IsNamedOperand, fields_offset}
+use Rattle.op_frames.specs.Scratch.{path_room, action_room, operands_room}
 use Rattle.op_low.specs.Valid.{has_symbol, takes}
 use Rattle.op_low.specs.declared.code.Routine.{Routine as LowRoutine}
 use Rattle.op_low.specs.declared.ids.VirtualRegister.{VirtualRegister}
 use Rattle.op_low.specs.declared.instruction.Instruction.{Instruction}
 use Rattle.op_low.specs.declared.instruction.Instruction.TheVariants.{Const, Address, Alu, AluImm, Branch, Load as LoadWord, Move, Store as StoreWord}
-use Rattle.op_lower.specs.Temporaries.{in_step, in_path, in_computation, in_action, up_to}
+use Rattle.op_lower.specs.Temporaries.{in_step, in_path, in_computation, in_action, in_destination, in_operand, most_of, up_to}
+use Rattle.op_meaning.specs.Primitives.{EachOperand, IsApplied, signature, sort_of}
 use Rattle.op_meaning.specs.Shapes.{shape_of, type_of_row}
 use Rattle.op_meaning.specs.Statements.{kind_of}
-use Rattle.op_mir.specs.View.{view_root, view_step, view_path, view_action, view_computation}
+use Rattle.op_meaning.specs.declared.primitive.Primitive.{Primitive}
+use Rattle.op_mir.specs.View.{view_root, view_step, view_path, view_action, view_computation, view_destination, view_operand}
 use Rattle.op_mir.specs.declared.action.Action.{Action}
-use Rattle.op_mir.specs.declared.action.Action.TheVariants.{Constant, Load, Store, Copy, Look, BeginWith, Pick, Compute, Write, WriteText}
+use Rattle.op_mir.specs.declared.action.Action.TheVariants.{Constant, Load, Store, Copy, Look, BeginWith, Pick, Compute}
 use Rattle.op_mir.specs.declared.action.Computation.{Computation}
 use Rattle.op_mir.specs.declared.action.Computation.TheVariants.{Arithmetic, Compare, Negate, Complement, Invert, Absolute, Odd, Upper, LowBits, Check, Neighbour, Single, Span, Combine, Contains, CheckSet}
-use Rattle.op_mir.specs.declared.action.Writing.{Writing}
-use Rattle.op_mir.specs.declared.action.Writing.TheVariants.{Number, Truth, Char}
+use Rattle.op_mir.specs.declared.action.Destination.{Destination}
+use Rattle.op_mir.specs.declared.action.Destination.TheVariants.{Unused, InTemporary}
+use Rattle.op_mir.specs.declared.action.Operand.{Operand}
+use Rattle.op_mir.specs.declared.action.Operand.TheVariants.{Number, Literal}
 use Rattle.op_mir.specs.declared.ids.LocalId.{LocalId}
 use Rattle.op_mir.specs.declared.ids.TemporaryId.{TemporaryId}
 use Rattle.op_mir.specs.declared.path.Path.{Path}
 use Rattle.op_mir.specs.declared.path.Root.{Root}
 use Rattle.op_mir.specs.declared.path.Root.TheVariants.{Global, Local, Through, Temporary}
 use Rattle.op_mir.specs.declared.path.Step.{Step}
-use Rattle.op_rt_text.specs.Names.{call, clear_number, literal, copy_words_number, copy_bytes_number, take_number, write_bytes_number, write_char_number, write_number_number, write_truth_number}
+use Rattle.op_rt_text.specs.Names.{call, clear_number, literal, copy_words_number, copy_bytes_number, take_number}
 use Rattle.op_rt_text.specs.Runtime.{runtime_routines}
 use Rattle.op_rv.specs.Encoding.{is_imm}
 use Rattle.op_rv.specs.Operation.{word_from}
@@ -218,7 +225,7 @@ module _ (m : Bounds) (core : Core) (frame : Frame) (n : ℕ) (is : IsFrame m co
   unfolding zeros_begun
   zeros_begun_fine size v small s room = zeros_by (nat_eq size 0) size v small s room
 
-  -- ---- literals, and the console
+  -- ---- literals
 
   pub pick_fine : (id : ℕ) (to : VirtualRegister) (size : ℕ) (index : VirtualRegister) → id < m.low.counts.literals → size < 2 ^ 32 → Below m to → Below m index → frame.bank.scratch + 3 ≤ m.registers → AreFine m (pick_code frame id to size index)
   unfolding has_symbol
@@ -227,18 +234,41 @@ module _ (m : Bounds) (core : Core) (frame : Frame) (n : ℕ) (is : IsFrame m co
       let b : Below m (scratch_of frame.bank 1) = omega (arith, room) in
       ((a, i, refl), ((b, small), ((a, b, omega (arith, is.errors)), ((b, lt-ltb id m.low.counts.literals there), ((a, b, a), ((t, a, refl), tt))))))
 
-  pub text_fine : (id size : ℕ) (width : VirtualRegister) → id < m.low.counts.literals → size < 2 ^ 32 → Below m width → frame.bank.scratch + 3 ≤ m.registers → AreFine m (text_code frame id size width)
-  unfolding has_symbol
-  text_fine id size width there small w room =
-      let a : Below m (scratch_of frame.bank 0) = omega (arith, room) in
-      let b : Below m (scratch_of frame.bank 1) = omega (arith, room) in
-      ((a, lt-ltb id m.low.counts.literals there), ((b, small), (((a, (b, (w, tt))), a, runtime_takes write_bytes_number 3 (λ others. refl), refl), tt)))
-
   pub register_below : (t : TemporaryId) → up_to t ≤ n → Below m (register_of frame.bank t)
   register_below t p = temporary_below m core frame n is temporaries t.0 (omega (arith, p))
 
-  pub written_fine : (routine : ℕ) (a w : TemporaryId) → ((others : List LowRoutine) → takes (slice_get (runtime_routines ++ others) routine) 2 ≡ true) → max (up_to a) (up_to w) ≤ n → frame.bank.scratch + 1 ≤ m.registers → AreFine m (written_by frame routine (register_of frame.bank a) (register_of frame.bank w))
-  written_fine routine a w e t room = (((register_below a (omega (arith, t)), (register_below w (omega (arith, t)), tt)), omega (arith, room), runtime_takes routine 2 e, refl), tt)
+  -- ---- primitives
+
+  words_passed : (used : ℕ) (os : List Operand) → length (operands_passed frame used os) ≡ words_in (map sort_of (map view_operand os))
+  words_passed used [] = refl
+  words_passed used (Number t ∷ os) = ap suc (words_passed (used + 0) os)
+  words_passed used (Literal text ∷ os) = ap (λ k. suc (suc k)) (words_passed (used + 2) os)
+
+  operands_fine : (texts : List (List ℕ)) (used : ℕ) (os : List Operand) → EachOperand IsNamedOperand (map view_operand os) → frame.bank.scratch + used + operands_room (map view_operand os) ≤ m.registers → Every (λ text. number_of texts text < m.low.counts.literals) (operands_literals os) → AreFine m (operands_code frame texts used os)
+  unfolding has_symbol
+  operands_fine texts used [] named room there = tt
+  operands_fine texts used (Number t ∷ os) named room there = operands_fine texts (used + 0) os named.1 (omega (arith, room)) there
+  operands_fine texts used (Literal text ∷ os) named room there =
+      ((omega (arith, room), lt-ltb (number_of texts text) m.low.counts.literals there.0), ((omega (arith, room), named.0), operands_fine texts (used + 2) os named.1 (omega (arith, room)) there.1))
+
+  passed_below : (used : ℕ) (os : List Operand) → Every (λ o. in_operand o ≤ n) os → frame.bank.scratch + used + operands_room (map view_operand os) ≤ m.registers → Every (Below m) (operands_passed frame used os)
+  unfolding in_operand
+  passed_below used [] low room = tt
+  passed_below used (Number t ∷ os) low room = (register_below t low.0, passed_below (used + 0) os low.1 (omega (arith, room)))
+  passed_below used (Literal text ∷ os) low room = (omega (arith, room), (omega (arith, room), passed_below (used + 2) os low.1 (omega (arith, room))))
+
+  destination_below : (to : Destination) → in_destination to ≤ n → frame.bank.scratch + 1 ≤ m.registers → Below m (destination_register frame to)
+  unfolding in_destination
+  destination_below Unused low room = omega (arith, room)
+  destination_below (InTemporary t) low room = register_below t low
+
+  pub primitive_fine : (texts : List (List ℕ)) (p : Primitive) (os : List Operand) (to : Destination) → IsApplied IsNamedOperand p (map view_operand os) (view_destination to) → max (most_of in_operand os) (in_destination to) ≤ n → frame.bank.scratch + (1 + operands_room (map view_operand os)) ≤ m.registers → Every (λ text. number_of texts text < m.low.counts.literals) (operands_literals os) → AreFine m (primitive_code frame texts p os to)
+  primitive_fine texts p os to named t room there =
+      let low = most_each in_operand os n (omega (arith, t)) in
+      let number = words_passed 0 os ∙ ap words_in named.sorts in
+      let less : frame.bank.scratch + 0 + operands_room (map view_operand os) ≤ m.registers = omega (arith, room) in
+      joined m _ _ (operands_fine texts 0 os named.each less there)
+      ((passed_below 0 os low less, destination_below to (omega (arith, t)) (omega (arith, room)), subst (λ k. takes (slice_get m.low.routines (routine_of p)) k ≡ true) (sym number) (runtime_takes (routine_of p) (words_in (signature p)) (served p).takes_them), refl), tt)
 
   -- ---- computations
 

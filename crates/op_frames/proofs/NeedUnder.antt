@@ -30,7 +30,7 @@ use Rattle.op_frames.specs.Charged.{IsCharged}
 use Rattle.op_frames.specs.Counted.{AreCountedStatements}
 use Rattle.op_frames.specs.Fitting.{room_of_block, room_of_instruction}
 use Rattle.op_frames.specs.Made.{AreMade, Every, IsCode}
-use Rattle.op_frames.specs.Scratch.{action_room, given_room, givens_room, path_room, receiver_room, room_in}
+use Rattle.op_frames.specs.Scratch.{action_room, given_room, givens_room, operand_room, operands_room, path_room, receiver_room, room_in}
 use Rattle.op_frames.specs.Wholes.{ActionIn, AreWholesIn, GivenIn, ReceiverIn}
 use Rattle.op_frames.specs.Within.{IsWithin}
 use Rattle.op_lower.specs.Lowers.{IsRoutine}
@@ -42,14 +42,14 @@ use Rattle.op_meaning.specs.Frames.{program_of}
 use Rattle.op_meaning.specs.Shapes.{is_reference, shape_of, variables_of}
 use Rattle.op_meaning.specs.Statements.{first_items, work_of_all}
 use Rattle.op_mir.specs.Code.{items_of}
-use Rattle.op_mir.specs.FrameNeed.{action_words, call_words, code_words, each_once, first_words, frame_need, given_words, instruction_words, is_one_root, path_words, receiver_words, roots_named, roots_of_action, roots_of_given, roots_of_instruction, roots_of_receiver, rounded, size_of_root, variable_bytes}
-use Rattle.op_mir.specs.View.{view_action, view_block, view_computation, view_given, view_instruction, view_path, view_receiver, view_step, view_writing}
+use Rattle.op_mir.specs.FrameNeed.{action_words, call_words, code_words, each_once, first_words, frame_need, given_words, instruction_words, is_one_root, operand_words, path_words, receiver_words, roots_named, roots_of_action, roots_of_given, roots_of_instruction, roots_of_receiver, rounded, size_of_root, variable_bytes}
+use Rattle.op_mir.specs.View.{view_action, view_block, view_computation, view_given, view_instruction, view_operand, view_path, view_receiver, view_step}
 use Rattle.op_mir.specs.declared.action.Action.{Action}
-use Rattle.op_mir.specs.declared.action.Action.TheVariants.{Constant, Load, Store, Copy, Look, BeginWith, Pick, Compute, Write, WriteText}
+use Rattle.op_mir.specs.declared.action.Action.TheVariants.{Constant, Load, Store, Copy, Look, BeginWith, Pick, Compute, Do}
 use Rattle.op_mir.specs.declared.action.Computation.{Computation}
 use Rattle.op_mir.specs.declared.action.Computation.TheVariants.{Arithmetic, Compare, Negate, Complement, Invert, Absolute, Odd, Upper, LowBits, Check, Neighbour, Single, Span, Combine, Contains, CheckSet}
-use Rattle.op_mir.specs.declared.action.Writing.{Writing}
-use Rattle.op_mir.specs.declared.action.Writing.TheVariants.{Number, Truth, Char}
+use Rattle.op_mir.specs.declared.action.Operand.{Operand}
+use Rattle.op_mir.specs.declared.action.Operand.TheVariants.{Number, Literal}
 use Rattle.op_mir.specs.declared.code.Block.{Block}
 use Rattle.op_mir.specs.declared.code.Routine.{Routine}
 use Rattle.op_mir.specs.declared.instruction.Given.{Given}
@@ -84,10 +84,14 @@ computation_as (Combine o to a b) = refl
 computation_as (Contains to a b) = refl
 computation_as (CheckSet all to a) = refl
 
-writing_as : (w : Writing) → 1 ≡ action_room (view_writing w)
-writing_as (Number a width) = refl
-writing_as (Truth a width) = refl
-writing_as (Char a width) = refl
+operand_as : (o : Operand) → operand_words o ≡ operand_room (view_operand o)
+unfolding operand_words
+operand_as (Number t) = refl
+operand_as (Literal text) = refl
+
+operands_as : (os : List Operand) → sum_by operand_words os ≡ operands_room (map view_operand os)
+operands_as [] = refl
+operands_as (o ∷ os) = sum_by-cons operand_words o os ∙ ap₂ (λ a b. a + b) (operand_as o) (operands_as os)
 
 given_as : (g : Given) → given_words g ≡ given_room (view_given g)
 unfolding given_words
@@ -117,8 +121,7 @@ module _ (core : Core) (r : ℕ) where
   action_as (BeginWith v) = refl
   action_as (Pick to text index) = refl
   action_as (Compute c) = computation_as c
-  action_as (Write w) = writing_as w
-  action_as (WriteText text width) = refl
+  action_as (Do p operands to) = ap (λ n. 1 + n) (operands_as operands)
 
   instruction_as : (i : Instruction) → instruction_words i ≡ room_of_instruction core r i
   unfolding instruction_words call_words
@@ -177,8 +180,7 @@ module _ (core : Core) where
     action_covered r (BeginWith v) c = tt
     action_covered r (Pick to text index) c = tt
     action_covered r (Compute k) c = tt
-    action_covered r (Write w) c = tt
-    action_covered r (WriteText text width) c = tt
+    action_covered r (Do p operands to) c = tt
 
     given_covered : (g : Given) → GivenIn wholes (view_given g) → Every (IsCovered core wholes) (roots_of_given g)
     given_covered (ByPlace path) c = (c, tt)

@@ -41,7 +41,7 @@ use Rattle.op_lower.specs.Temporaries.{in_block, in_blocks, in_instruction, most
 use Rattle.op_meaning.specs.Shapes.{variables_of}
 use Rattle.op_mir.specs.View.{view_block, view_given, view_instruction}
 use Rattle.op_mir.specs.declared.action.Action.{Action}
-use Rattle.op_mir.specs.declared.action.Action.TheVariants.{Constant, Load, Store, Copy, Look, BeginWith, Pick, Compute, Write, WriteText}
+use Rattle.op_mir.specs.declared.action.Action.TheVariants.{Constant, Load, Store, Copy, Look, BeginWith, Pick, Compute, Do}
 use Rattle.op_mir.specs.declared.code.Block.{Block}
 use Rattle.op_mir.specs.declared.code.Mir.{Mir}
 use Rattle.op_mir.specs.declared.code.Routine.{Routine}
@@ -98,8 +98,7 @@ module _ (m : Bounds) (core : Core) (r : ℕ) (routine : Routine) (n blocks most
   can_act (Look at) landing less = tt
   can_act (Pick to text index) landing less = tt
   can_act (Compute c) landing less = tt
-  can_act (Write w) landing less = tt
-  can_act (WriteText text width) landing less = tt
+  can_act (Do p operands to) landing less = tt
 
   can_do : (i : Instruction) → IsNamed core blocks (view_instruction core r i) → begin_room core r (frame_of core r routine) i ≤ most → CanDo m core (frame_of core r routine) i
   can_do (Act a landing) named less = can_act a landing less

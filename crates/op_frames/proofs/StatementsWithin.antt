@@ -21,13 +21,13 @@ use Rattle.op_frames.specs.Counted.{IsCounted, IsBare, IsCountedAmount, IsCounte
 use Rattle.op_frames.specs.Made.{Every, AreMade, IsMade, AreMadeTurns, AreMadeCases, ArmsOf}
 use Rattle.op_frames.specs.Within.{StepsBelow, ActionBelow, IsWithin, labels_among}
 use Rattle.op_meaning.specs.Charge.{Weight, nodes_of, expression_weight, item_weight, items_weight, built_in_weight, labels_weight, counter_weight, statement_weight, statements_weight, branches_weight}
-use Rattle.op_meaning.specs.Actions.{Action, constant, load, store, copy, arithmetic, compare, check, single as lone, combine, contains, write_number, write_truth, write_char, write_text}
+use Rattle.op_meaning.specs.Actions.{Action, constant, load, store, copy, arithmetic, compare, check, single as lone, combine, contains}
 use Rattle.op_meaning.specs.Every.{EveryWork, branches_works, built_in_works, item_works, items_works}
 use Rattle.op_meaning.specs.Expressions.{Here, past, past_whole, Env, Now, ready, at_path, a_text, Found, found, whole_path, path_of, own, then_acts, low_in, high_in, counted_of, element_step, converted, find, make}
 use Rattle.op_meaning.specs.Items.{act, choose, select, loop, body_first, protect, leave, halt, Items, none, then_do, Turns, turns, Cases, no_cases, cases, ◌&◌, only, acts}
 use Rattle.op_meaning.specs.Paths.{Path, Step, with_step}
 use Rattle.op_meaning.specs.Shapes.{Shape, single, composite, of_chars, of_elements, of_instance, shape_of, type_of_variable}
-use Rattle.op_meaning.specs.Statements.{stored_by, assigned, result_path, variable_path, at_variable, kind_of, write_by, write_by_now, write_value, no_width, write_one, write_all, line_end, sum_or_difference, counted_at, changed_set, done_built_in, counting, check_bound, store_variable, for_items, in_array, in_set, in_collection, in_turn, work_of, work_of_all, cases_of}
+use Rattle.op_meaning.specs.Statements.{stored_by, assigned, result_path, variable_path, at_variable, kind_of, write_by, write_by_now, write_value, no_width, write_one, write_all, write_text, line_end, sum_or_difference, counted_at, changed_set, done_built_in, counting, check_bound, store_variable, for_items, in_array, in_set, in_collection, in_turn, work_of, work_of_all, cases_of}
 use Rattle.op_mir.specs.Code.{Instr, do_act, Arm}
 use Rattle.op_tree.specs.declared.operator.Operator.{Operator}
 use Rattle.op_tree.specs.declared.operator.Operator.TheVariants.{Add, Subtract}
@@ -65,12 +65,12 @@ module _ (blocks top room : ℕ) where
   -- ---- Write
 
   written_well : (of : Option CoreType) (t : ℕ) → t + 1 < top → 3 ≤ room → IsWithin top room (do_act (write_by of t) None)
-  written_well (Some Boolean) t less r = ((omega (arith, less), less), omega (arith, r))
-  written_well (Some Char) t less r = ((omega (arith, less), less), omega (arith, r))
-  written_well _ t less r = ((omega (arith, less), less), omega (arith, r))
+  written_well (Some Boolean) t less r = (((omega (arith, less), (less, tt)), tt), omega (arith, r))
+  written_well (Some Char) t less r = (((omega (arith, less), (less, tt)), tt), omega (arith, r))
+  written_well _ t less r = (((omega (arith, less), (less, tt)), tt), omega (arith, r))
 
   value_well : (env : Env) (here : Here) (of : TypeId) (f : Found) (width : Items) (now : Now) → IsItems f.items → IsItems width → here.temp + 1 < top → 3 ≤ room → IsItems (write_by_now env here of f width now)
-  value_well env here of f width (a_text bytes) a b less r = three_parts f.items width (only (act (write_text bytes (here.temp + 1)))) a b ((less, r), tt)
+  value_well env here of f width (a_text bytes) a b less r = three_parts f.items width (only (act (write_text bytes (here.temp + 1)))) a b ((((tt, (less, tt)), tt), r), tt)
   value_well env here of f width ready a b less r = three_parts f.items width (only (act (write_by (host env.core (type_at env.core of)) here.temp))) a b (written_well (host env.core (type_at env.core of)) here.temp less r, tt)
   value_well env here of f width (at_path p) a b less r = three_parts f.items width (only (act (write_by (host env.core (type_at env.core of)) here.temp))) a b (written_well (host env.core (type_at env.core of)) here.temp less r, tt)
 
@@ -90,7 +90,7 @@ module _ (blocks top room : ℕ) where
 
   line_well : (here : Here) (ends : Bool) → here.temp + 2 ≤ top → 3 ≤ room → IsItems (line_end here ends)
   line_well here false t r = tt
-  line_well here true t r = ((omega (arith, t), omega arith), ((omega (arith, t), r), tt))
+  line_well here true t r = ((omega (arith, t), omega arith), ((((tt, (omega (arith, t), tt)), tt), r), tt))
 
   -- ---- Inc, Dec, Include and Exclude
 

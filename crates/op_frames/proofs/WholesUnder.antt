@@ -19,7 +19,7 @@ use Rattle.op_meaning.specs.Frames.{program_of}
 use Rattle.op_mir.specs.Code.{Instr, items_of}
 use Rattle.op_mir.specs.View.{view_action, view_block, view_given, view_instruction, view_receiver, view_root}
 use Rattle.op_mir.specs.declared.action.Action.{Action}
-use Rattle.op_mir.specs.declared.action.Action.TheVariants.{Constant, Load, Store, Copy, Look, BeginWith, Pick, Compute, Write, WriteText}
+use Rattle.op_mir.specs.declared.action.Action.TheVariants.{Constant, Load, Store, Copy, Look, BeginWith, Pick, Compute, Do}
 use Rattle.op_mir.specs.declared.code.Block.{Block}
 use Rattle.op_mir.specs.declared.code.Routine.{Routine}
 use Rattle.op_mir.specs.declared.instruction.Given.{Given}
@@ -216,8 +216,7 @@ module _ (core : Core) where
   action_good r wholes rs (BeginWith v) g c = g
   action_good r wholes rs (Pick to text index) g c = g
   action_good r wholes rs (Compute k) g c = g
-  action_good r wholes rs (Write w) g c = g
-  action_good r wholes rs (WriteText text width) g c = g
+  action_good r wholes rs (Do p operands to) g c = g
 
   instruction_good : (r : ℕ) (wholes rs : List Root) (i : Instruction) → IsGood wholes rs → AreWholesIn wholes (view_instruction core r i) → IsGood wholes (with_instruction rs i)
   instruction_good r wholes rs (Act a landing) g c = action_good r wholes rs a g c

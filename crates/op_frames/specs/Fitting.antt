@@ -24,7 +24,7 @@ use Rattle.op_lower.specs.Temporaries.{in_blocks, most_of}
 use Rattle.op_meaning.specs.Shapes.{is_reference, shape_of, type_of_local, variables_of}
 use Rattle.op_mir.specs.View.{view_instruction}
 use Rattle.op_mir.specs.declared.action.Action.{Action}
-use Rattle.op_mir.specs.declared.action.Action.TheVariants.{Constant, Load, Store, Copy, Look, BeginWith, Pick, Compute, Write, WriteText}
+use Rattle.op_mir.specs.declared.action.Action.TheVariants.{Constant, Load, Store, Copy, Look, BeginWith, Pick, Compute, Do}
 use Rattle.op_mir.specs.declared.code.Block.{Block}
 use Rattle.op_mir.specs.declared.code.Mir.{Mir}
 use Rattle.op_mir.specs.declared.code.Routine.{Routine}
@@ -58,8 +58,7 @@ begin_of_action core r frame (Look at) = 0
 begin_of_action core r frame (BeginWith v) = if begins_with_one core r frame v then 1 else 2
 begin_of_action core r frame (Pick to text index) = 0
 begin_of_action core r frame (Compute c) = 0
-begin_of_action core r frame (Write w) = 0
-begin_of_action core r frame (WriteText text width) = 0
+begin_of_action core r frame (Do p operands to) = 0
 
 unfoldable pub begin_room : Core → ℕ → Frame → Instruction → ℕ
 begin_room core r frame (Act a landing) = begin_of_action core r frame a

@@ -8,8 +8,9 @@ use Rattle.op_core.specs.declared.program.Core.{Core}
 use Rattle.op_core.specs.declared.statement.Label.{Label}
 use Rattle.op_expand.specs.Frames.{parameters_of}
 use Rattle.op_frames.specs.Made.{Every}
-use Rattle.op_meaning.specs.Actions.{Action, constant, load, store, copy, look, begin_with, pick, arithmetic, compare, negate, complement, invert, absolute, odd, upper, low_bits, check, neighbour, single, span, combine, contains, check_set, write_number, write_truth, write_char, write_text}
+use Rattle.op_meaning.specs.Actions.{Action, constant, load, store, copy, look, begin_with, pick, arithmetic, compare, negate, complement, invert, absolute, odd, upper, low_bits, check, neighbour, single, span, combine, contains, check_set, primitive}
 use Rattle.op_meaning.specs.Items.{Given, by_value, by_reference, by_place, by_copy, Receiver, nowhere, to_temp, to_place}
+use Rattle.op_meaning.specs.Primitives.{IsApplied, Operand, from_temp, literal_text}
 use Rattle.op_meaning.specs.Shapes.{shape_of}
 use Rattle.op_meaning.specs.Paths.{Path, Root, in_global, in_local, through, in_temporary, Step, field, element}
 use Rattle.op_mir.specs.Code.{Arm, Instr, do_act, do_call, jump, when, unless, switch, dispatch, make_due, stop, ret}
@@ -39,6 +40,10 @@ IsNamedPath core p = IsNamedRoot core p.root × Every IsNamedStep p.steps × (fi
 
 -- ---- actions
 
+abbrev pub IsNamedOperand : Operand → Type 0
+IsNamedOperand (from_temp t) = Unit {0}
+IsNamedOperand (literal_text text) = length text < 2 ^ 32
+
 abbrev pub IsNamedAction : Core → Action → Type 0
 IsNamedAction core (constant to n) = FitsSigned w32 n
 IsNamedAction core (load to kind from) = IsNamedPath core from
@@ -63,10 +68,7 @@ IsNamedAction core (span to a b) = Unit {0}
 IsNamedAction core (combine o to a b) = Unit {0}
 IsNamedAction core (contains to a b) = Unit {0}
 IsNamedAction core (check_set all to from) = FitsSigned w32 (int_bit_not w32 all)
-IsNamedAction core (write_number from width) = Unit {0}
-IsNamedAction core (write_truth from width) = Unit {0}
-IsNamedAction core (write_char from width) = Unit {0}
-IsNamedAction core (write_text text width) = length text < 2 ^ 32
+IsNamedAction core (primitive p operands to) = IsApplied IsNamedOperand p operands to
 
 -- ---- instructions
 

@@ -1,13 +1,22 @@
 -- How many scratch registers the low code of an instruction takes at most.
 use Rattle.std.specs.Prelude.{ℕ, ◌+◌, ◌*◌, List, [], ◌∷◌, length}
-use Rattle.op_meaning.specs.Actions.{Action, constant, load, store, copy, look, begin_with, pick, arithmetic, compare, negate, complement, invert, absolute, odd, upper, low_bits, check, neighbour, single, span, combine, contains, check_set, write_number, write_truth, write_char, write_text}
+use Rattle.op_meaning.specs.Actions.{Action, constant, load, store, copy, look, begin_with, pick, arithmetic, compare, negate, complement, invert, absolute, odd, upper, low_bits, check, neighbour, single, span, combine, contains, check_set, primitive}
 use Rattle.op_meaning.specs.Items.{Given, by_value, by_reference, by_place, by_copy, Receiver, nowhere, to_temp, to_place}
 use Rattle.op_meaning.specs.Paths.{Path}
+use Rattle.op_meaning.specs.Primitives.{Operand, from_temp, literal_text}
 use Rattle.op_mir.specs.Code.{Instr, do_act, do_call, jump, when, unless, switch, dispatch, make_due, stop, ret}
 
 -- one has the address of the root; an element takes one and another one for its index, and a distance that is too large takes one
 abbrev pub path_room : Path → ℕ
 path_room p = 1 + 2 * length p.steps
+
+abbrev pub operand_room : Operand → ℕ
+operand_room (from_temp t) = 0
+operand_room (literal_text text) = 2
+
+abbrev pub operands_room : List Operand → ℕ
+operands_room [] = 0
+operands_room (o ∷ os) = operand_room o + operands_room os
 
 -- what variables begin with is counted with the frame
 abbrev pub action_room : Action → ℕ
@@ -34,10 +43,7 @@ action_room (span to a b) = 3
 action_room (combine o to a b) = 3
 action_room (contains to a b) = 3
 action_room (check_set all to a) = 3
-action_room (write_number from width) = 1
-action_room (write_truth from width) = 1
-action_room (write_char from width) = 1
-action_room (write_text text width) = 3
+action_room (primitive p operands to) = 1 + operands_room operands
 
 abbrev pub given_room : Given → ℕ
 given_room (by_value kind t) = 1

@@ -3,7 +3,7 @@ use Rattle.std.specs.Prelude.{◌≡◌, ℕ, true, List}
 use Rattle.std.specs.List.{list_any}
 use Rattle.op_expand.specs.Homes.{is_one_root}
 use Rattle.op_frames.specs.Made.{Every}
-use Rattle.op_meaning.specs.Actions.{Action, constant, load, store, copy, look, begin_with, pick, arithmetic, compare, negate, complement, invert, absolute, odd, upper, low_bits, check, neighbour, single, span, combine, contains, check_set, write_number, write_truth, write_char, write_text}
+use Rattle.op_meaning.specs.Actions.{Action, constant, load, store, copy, look, begin_with, pick, arithmetic, compare, negate, complement, invert, absolute, odd, upper, low_bits, check, neighbour, single, span, combine, contains, check_set, primitive}
 use Rattle.op_meaning.specs.Items.{Given, by_value, by_reference, by_place, by_copy, Receiver, nowhere, to_temp, to_place}
 use Rattle.op_meaning.specs.Paths.{Root, in_global, in_local, through, in_temporary}
 use Rattle.op_mir.specs.Code.{Instr, do_act, do_call, jump, when, unless, switch, dispatch, make_due, stop, ret}
@@ -40,10 +40,7 @@ ActionIn wholes (span to a b) = Unit {0}
 ActionIn wholes (combine o to a b) = Unit {0}
 ActionIn wholes (contains to a b) = Unit {0}
 ActionIn wholes (check_set all to a) = Unit {0}
-ActionIn wholes (write_number from width) = Unit {0}
-ActionIn wholes (write_truth from width) = Unit {0}
-ActionIn wholes (write_char from width) = Unit {0}
-ActionIn wholes (write_text text width) = Unit {0}
+ActionIn wholes (primitive p operands to) = Unit {0}
 
 abbrev pub GivenIn : List ManagedRoot → Given → Type 0
 GivenIn wholes (by_place p) = IsWholeIn wholes p.root

@@ -2,9 +2,10 @@
 use Rattle.std.specs.Prelude.{◌<◌, ◌≤◌, ℕ, ◌+◌, List, [], ◌∷◌, length}
 use Rattle.op_frames.specs.Made.{Every}
 use Rattle.op_frames.specs.Scratch.{action_room, givens_room, receiver_room}
-use Rattle.op_meaning.specs.Actions.{Action, constant, load, store, copy, look, begin_with, pick, arithmetic, compare, negate, complement, invert, absolute, odd, upper, low_bits, check, neighbour, single, span, combine, contains, check_set, write_number, write_truth, write_char, write_text}
+use Rattle.op_meaning.specs.Actions.{Action, constant, load, store, copy, look, begin_with, pick, arithmetic, compare, negate, complement, invert, absolute, odd, upper, low_bits, check, neighbour, single, span, combine, contains, check_set, primitive}
 use Rattle.op_meaning.specs.Items.{Given, by_value, by_reference, by_place, by_copy, Receiver, nowhere, to_temp, to_place}
 use Rattle.op_meaning.specs.Paths.{Step, field, element}
+use Rattle.op_meaning.specs.Primitives.{Destination, EachOperand, Operand, from_temp, in_temp, literal_text, unused}
 use Rattle.op_mir.specs.Code.{Instr, do_act, do_call, jump, when, unless, switch, dispatch, make_due, stop, ret, Arm}
 
 abbrev pub StepsBelow : ℕ → List Step → Type 0
@@ -17,6 +18,14 @@ TwoBelow top a b = (a < top) × (b < top)
 
 abbrev pub ThreeBelow : (top a b c : ℕ) → Type 0
 ThreeBelow top a b c = (a < top) × (b < top) × (c < top)
+
+abbrev pub OperandBelow : ℕ → Operand → Type 0
+OperandBelow top (from_temp t) = t < top
+OperandBelow top (literal_text text) = Unit {0}
+
+abbrev pub DestinationBelow : ℕ → Destination → Type 0
+DestinationBelow top unused = Unit {0}
+DestinationBelow top (in_temp t) = t < top
 
 abbrev pub ActionBelow : ℕ → Action → Type 0
 ActionBelow top (constant to n) = to < top
@@ -42,10 +51,7 @@ ActionBelow top (span to a b) = ThreeBelow top to a b
 ActionBelow top (combine o to a b) = ThreeBelow top to a b
 ActionBelow top (contains to a b) = ThreeBelow top to a b
 ActionBelow top (check_set all to a) = TwoBelow top to a
-ActionBelow top (write_number a width) = TwoBelow top a width
-ActionBelow top (write_truth a width) = TwoBelow top a width
-ActionBelow top (write_char a width) = TwoBelow top a width
-ActionBelow top (write_text text width) = width < top
+ActionBelow top (primitive p operands to) = EachOperand (OperandBelow top) operands × DestinationBelow top to
 
 abbrev pub GivenBelow : ℕ → Given → Type 0
 GivenBelow top (by_value kind t) = t < top

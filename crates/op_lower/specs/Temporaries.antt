@@ -1,11 +1,13 @@
 -- How many temporaries a routine has that are one value: one more than the greatest that its code names.
 use Rattle.std.specs.Prelude.{ℕ, ◌+◌, max, List, fold}
 use Rattle.op_mir.specs.declared.action.Action.{Action}
-use Rattle.op_mir.specs.declared.action.Action.TheVariants.{Constant, Load, Store, Copy, Look, BeginWith, Pick, Compute, Write, WriteText}
+use Rattle.op_mir.specs.declared.action.Action.TheVariants.{Constant, Load, Store, Copy, Look, BeginWith, Pick, Compute, Do}
 use Rattle.op_mir.specs.declared.action.Computation.{Computation}
 use Rattle.op_mir.specs.declared.action.Computation.TheVariants.{Arithmetic, Compare, Negate, Complement, Invert, Absolute, Odd, Upper, LowBits, Check, Neighbour, Single, Span, Combine, Contains, CheckSet}
-use Rattle.op_mir.specs.declared.action.Writing.{Writing}
-use Rattle.op_mir.specs.declared.action.Writing.TheVariants.{Number, Truth, Char}
+use Rattle.op_mir.specs.declared.action.Destination.{Destination}
+use Rattle.op_mir.specs.declared.action.Destination.TheVariants.{Unused, InTemporary}
+use Rattle.op_mir.specs.declared.action.Operand.{Operand}
+use Rattle.op_mir.specs.declared.action.Operand.TheVariants.{Number, Literal}
 use Rattle.op_mir.specs.declared.code.Block.{Block}
 use Rattle.op_mir.specs.declared.ids.TemporaryId.{TemporaryId}
 use Rattle.op_mir.specs.declared.instruction.Call.{Call as Operands}
@@ -64,10 +66,13 @@ in_computation (Combine o to a b) = up_to_each to a b
 in_computation (Contains to a b) = up_to_each to a b
 in_computation (CheckSet all to a) = up_to_both to a
 
-unfoldable pub in_writing : Writing → ℕ
-in_writing (Number a width) = up_to_both a width
-in_writing (Truth a width) = up_to_both a width
-in_writing (Char a width) = up_to_both a width
+unfoldable pub in_operand : Operand → ℕ
+in_operand (Number t) = up_to t
+in_operand (Literal text) = 0
+
+unfoldable pub in_destination : Destination → ℕ
+in_destination Unused = 0
+in_destination (InTemporary t) = up_to t
 
 abbrev pub in_move : TemporaryId → Path → ℕ
 in_move t path = max (up_to t) (in_path path)
@@ -81,8 +86,7 @@ in_action (Look at) = in_path at
 in_action (BeginWith v) = 0
 in_action (Pick to text index) = up_to_both to index
 in_action (Compute computation) = in_computation computation
-in_action (Write writing) = in_writing writing
-in_action (WriteText text width) = up_to width
+in_action (Do p operands to) = max (most_of in_operand operands) (in_destination to)
 
 -- ---- instructions
 

@@ -1,10 +1,10 @@
 //! How many temporaries code names.
 ghost use Rattle.std.specs.Prelude.{◌≡◌, ◌≤◌, ◌^◌, ◌+◌};
-ghost use Rattle.op_lower.specs.Temporaries.{in_action, in_block, in_blocks, in_call, in_computation, in_given, in_instruction, in_move, in_path, in_paths, in_receiver, in_step, in_writing, most_of, up_to, up_to_both, up_to_each};
+ghost use Rattle.op_lower.specs.Temporaries.{in_action, in_block, in_blocks, in_call, in_computation, in_destination, in_given, in_instruction, in_move, in_operand, in_path, in_paths, in_receiver, in_step, most_of, up_to, up_to_both, up_to_each};
 
 use op_mir::{
-    Action, Block, Call, Computation, Given, Instruction, Path, Receiver, Step, TemporaryId,
-    Writing,
+    Action, Block, Call, Computation, Destination, Given, Instruction, Operand, Path, Receiver,
+    Step, TemporaryId,
 };
 
 /// One more than the greatest temporary that the blocks name.
@@ -99,8 +99,11 @@ fn in_action(action: &Action) -> u64
         Action::BeginWith { variable: _ } => 0,
         Action::Pick { to, text: _, index } => up_to_both(*to, *index),
         Action::Compute(computation) => in_computation(*computation),
-        Action::Write(writing) => in_writing(*writing),
-        Action::WriteText { text: _, width } => up_to(*width),
+        Action::Do {
+            primitive: _,
+            operands,
+            to,
+        } => in_operands(operands.as_slice()).max(in_destination(*to)),
     }
 }
 
@@ -175,14 +178,31 @@ fn in_computation(computation: Computation) -> u64
     }
 }
 
-#[tactic(auto, unfolding(crate::specs::Temporaries::in_writing))]
-fn in_writing(writing: Writing) -> u64
-    ensures { result ≡ in_writing writing }
+fn in_operands(operands: &[Operand]) -> u64
+    ensures { result ≡ most_of in_operand operands.now }
 {
-    match writing {
-        Writing::Number { from, width } => up_to_both(from, width),
-        Writing::Truth { from, width } => up_to_both(from, width),
-        Writing::Char { from, width } => up_to_both(from, width),
+    operands
+        .iter()
+        .fold(0, |most, operand| most.max(in_operand(operand)))
+}
+
+#[tactic(auto, unfolding(crate::specs::Temporaries::in_operand))]
+fn in_operand(operand: &Operand) -> u64
+    ensures { result ≡ in_operand operand.now }
+{
+    match operand {
+        Operand::Number(temporary) => up_to(*temporary),
+        Operand::Literal(_) => 0,
+    }
+}
+
+#[tactic(auto, unfolding(crate::specs::Temporaries::in_destination))]
+fn in_destination(to: Destination) -> u64
+    ensures { result ≡ in_destination to }
+{
+    match to {
+        Destination::Unused => 0,
+        Destination::InTemporary(temporary) => up_to(temporary),
     }
 }
 

@@ -10,11 +10,12 @@ use Rattle.op_core.specs.declared.types.IntegerKind.{IntegerKind}
 use Rattle.op_meaning.specs.Errors.{failed}
 use Rattle.op_meaning.specs.Numbers.{between, wrapped, fits_word, exact, divides, compared, low_bits_of, upper_case, is_true}
 use Rattle.op_meaning.specs.Paths.{Path, place_of}
+use Rattle.op_meaning.specs.Primitives.{Destination, Operand, meaning, performed, signature, values_of}
 use Rattle.op_meaning.specs.Sets.{truth, bit, set_of, without, combined, is_element}
 use Rattle.op_meaning.specs.Shapes.{first_of}
-use Rattle.op_meaning.specs.Texts.{padded, width_of, text_of_number, text_of_truth, text_of_char}
 use Rattle.op_meaning.specs.Values.{Place, number, local, all_of, number_in}
-use Rattle.op_meaning.specs.World.{World, with_number, number_at, value_at, with_value, written}
+use Rattle.op_meaning.specs.World.{World, with_number, number_at, value_at, with_value}
+use Rattle.op_meaning.specs.declared.primitive.Primitive.{Primitive}
 use Rattle.op_tree.specs.declared.operator.Operator.{Operator}
 
 pub data Action : Type 0 where
@@ -53,11 +54,8 @@ pub data Action : Type 0 where
   contains : (to element set : ℕ) → Action
   -- checks that there is no element but of this set
   check_set : (all : ℤ) → (to from : ℕ) → Action
-  -- ---- the console
-  write_number : (from width : ℕ) → Action
-  write_truth : (from width : ℕ) → Action
-  write_char : (from width : ℕ) → Action
-  write_text : (text : List ℕ) → (width : ℕ) → Action
+  -- ---- what a run-time routine does
+  primitive : (p : Primitive) → (operands : List Operand) → (to : Destination) → Action
 
 -- where a path leads to nowhere an index is out of range
 abbrev pub at_place : Core → Option Place → (Place → World) → World → World
@@ -104,7 +102,4 @@ perform core (span to a b) w = with_number to (set_of (λ n. between (number_at 
 perform core (combine o to a b) w = with_number to (combined o (number_at w a) (number_at w b)) w
 perform core (contains to a b) w = with_number to (truth (is_element (number_at w a) (number_at w b))) w
 perform core (check_set all to a) w = if int_eq (without (number_at w a) all) (pos 0) then with_number to (number_at w a) w else failed core 201 w
-perform core (write_number a width) w = written (padded (width_of (number_at w width)) (text_of_number (number_at w a))) w
-perform core (write_truth a width) w = written (padded (width_of (number_at w width)) (text_of_truth (number_at w a))) w
-perform core (write_char a width) w = written (padded (width_of (number_at w width)) (text_of_char (number_at w a))) w
-perform core (write_text text width) w = written (padded (width_of (number_at w width)) text) w
+perform core (primitive p operands to) w = performed core to (meaning p (values_of w (signature p) operands)) w

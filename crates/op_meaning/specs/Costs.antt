@@ -5,7 +5,7 @@ use Rattle.std.specs.Prelude.{ℕ, zero, suc, ◌+◌, ◌-◌, ◌*◌, Bool, t
 use Rattle.std.specs.List.{sum_by, filter}
 use Rattle.op_core.specs.declared.ids.TypeId.{TypeId}
 use Rattle.op_core.specs.declared.program.Core.{Core}
-use Rattle.op_meaning.specs.Actions.{Action, constant, load, store, copy, look, begin_with, pick, arithmetic, compare, negate, complement, invert, absolute, odd, upper, low_bits, check, neighbour, single, span, combine, contains, check_set, write_number, write_truth, write_char, write_text}
+use Rattle.op_meaning.specs.Actions.{Action, constant, load, store, copy, look, begin_with, pick, arithmetic, compare, negate, complement, invert, absolute, odd, upper, low_bits, check, neighbour, single, span, combine, contains, check_set, primitive}
 use Rattle.op_meaning.specs.Calls.{env_of}
 use Rattle.op_meaning.specs.Demands.{Demand, nothing, block, demand, size_of}
 use Rattle.op_meaning.specs.Expressions.{first_here, result_of}
@@ -13,6 +13,7 @@ use Rattle.op_meaning.specs.Frames.{Program, State, Frame, Caller}
 use Rattle.op_meaning.specs.Items.{Given, by_value, by_reference, by_place, by_copy, Item, act, also, choose, select, loop, body_first, protect, leave, enter, finish, attempt, throw, rethrow, halt, construct, free, Items, none, then_do, Turns, turns, Cases, no_cases, cases, Clauses, no_clauses, for_others, clauses, Task, item, mark, turn, finally, resume, catching, handling, leaving, ending, due}
 use Rattle.op_meaning.specs.Machine.{step}
 use Rattle.op_meaning.specs.Paths.{Path, Step, field, element}
+use Rattle.op_meaning.specs.Primitives.{bytes_besides, operands_bytes}
 use Rattle.op_meaning.specs.Statements.{work_of_all}
 use Rattle.op_meaning.specs.World.{World, Ending, Running, Ended}
 
@@ -55,10 +56,7 @@ action_bytes core (span to a b) = numbers 3
 action_bytes core (combine o to a b) = numbers 3
 action_bytes core (contains to a b) = numbers 3
 action_bytes core (check_set all to a) = numbers 3
-action_bytes core (write_number from width) = numbers 3
-action_bytes core (write_truth from width) = numbers 3
-action_bytes core (write_char from width) = numbers 3
-action_bytes core (write_text text width) = numbers 1 + length text
+action_bytes core (primitive p operands to) = bytes_besides p + operands_bytes operands
 
 abbrev pub given_bytes : Core → Given → ℕ
 given_bytes core (by_value kind t) = numbers 1

@@ -16,6 +16,7 @@ pub mod Losing
 pub mod Machine
 pub mod Numbers
 pub mod Paths
+pub mod Primitives
 pub mod Sets
 pub mod Shapes
 pub mod Source

@@ -15,12 +15,14 @@ use Rattle.op_core.specs.declared.types.CoreType.{CoreType}
 use Rattle.op_core.specs.declared.types.CoreType.TheVariants.{Boolean, Char, Set, Array}
 use Rattle.op_core.specs.declared.types.IntegerKind.{IntegerKind}
 use Rattle.op_core.specs.declared.types.IntegerKind.TheVariants.{Signed32}
-use Rattle.op_meaning.specs.Actions.{Action, constant, load, store, copy, begin_with, arithmetic, compare, check, single as lone, combine, contains, write_number, write_truth, write_char, write_text}
+use Rattle.op_meaning.specs.Actions.{Action, constant, load, store, copy, begin_with, arithmetic, compare, check, single as lone, combine, contains, primitive}
 use Rattle.op_meaning.specs.Expressions.{Here, past, past_whole, Env, at_path, Found, found, whole_path, path_of, own, then_acts, low_in, high_in, counted_of, element_step, converted, find, make, Now, a_text}
 use Rattle.op_meaning.specs.Items.{act, choose, select, loop, body_first, protect, leave, attempt, throw, rethrow, halt, free, Items, none, then_do, Turns, turns, Cases, no_cases, cases, Clauses, no_clauses, for_others, clauses, ◌&◌, only, acts}
 use Rattle.op_meaning.specs.Paths.{Path, Root, in_local, path_to, with_step, root_of}
+use Rattle.op_meaning.specs.Primitives.{from_temp, literal_text, unused}
 use Rattle.op_meaning.specs.Shapes.{Shape, single, composite, shape_of, type_of_variable, type_of_local, variables_of, result_of_routine}
 use Rattle.op_meaning.specs.Texts.{line_feed}
+use Rattle.op_meaning.specs.declared.primitive.Primitive.TheVariants.{WriteNumber, WriteTruth, WriteChar, WriteText}
 use Rattle.op_tree.specs.declared.operator.Operator.{Operator}
 use Rattle.op_tree.specs.declared.operator.Operator.TheVariants.{Equal, LessEqual, GreaterEqual, Add, Subtract}
 use Rattle.op_tree.specs.declared.statement.Direction.{Direction}
@@ -57,9 +59,12 @@ kind_of core of = kind_by (shape_of core of)
 -- ---- Write
 
 abbrev pub write_by : Option CoreType → ℕ → Action
-write_by (Some Boolean) t = write_truth t (t + 1)
-write_by (Some Char) t = write_char t (t + 1)
-write_by _ t = write_number t (t + 1)
+write_by (Some Boolean) t = primitive WriteTruth (from_temp t ∷ from_temp (t + 1) ∷ []) unused
+write_by (Some Char) t = primitive WriteChar (from_temp t ∷ from_temp (t + 1) ∷ []) unused
+write_by _ t = primitive WriteNumber (from_temp t ∷ from_temp (t + 1) ∷ []) unused
+
+abbrev pub write_text : List ℕ → ℕ → Action
+write_text text width = primitive WriteText (literal_text text ∷ from_temp width ∷ []) unused
 
 -- the value is in the first temporary and the width in the second one; a literal is written as it is
 abbrev pub write_by_now : Env → Here → TypeId → Found → Items → Now → Items

@@ -26,6 +26,11 @@ pub data Value : Type 0 where
   -- of an interface, which holds its instance, or of a class, which does not
   instance : (holds : Bool) → (name : Option ℕ) → Value
 
+-- what is come to, or the run-time error that is met on the way
+pub data Reached (A : Type 0) : Type 0 where
+  reached : (value : A) → Reached A
+  failing : (error : ℕ) → Reached A
+
 abbrev pub number_in : Value → ℤ
 number_in (number n) = n
 number_in _ = pos 0

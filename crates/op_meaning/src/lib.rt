@@ -20,6 +20,8 @@ mod charge_expression;
 mod charge_statement;
 mod charges;
 mod laws;
+mod primitive;
 
 pub use charges::charge;
 pub use laws::{ended_programs_stay, sets_are_their_elements};
+pub use primitive::{Primitive, Sort};

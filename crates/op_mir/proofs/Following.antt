@@ -14,7 +14,7 @@ use Rattle.op_core.specs.declared.ids.RoutineId.{RoutineId}
 use Rattle.op_core.specs.declared.ids.Run.{Run}
 use Rattle.op_core.specs.declared.program.Core.{Core}
 use Rattle.op_core.specs.declared.program.Unit.{Unit as UnitRow}
-use Rattle.op_meaning.specs.Actions.{Action, constant, load, store, copy, look, begin_with, pick, arithmetic, compare, negate, complement, invert, absolute, odd, upper, low_bits, check, neighbour, single, span, combine, contains, check_set, write_number, write_truth, write_char, write_text}
+use Rattle.op_meaning.specs.Actions.{Action, constant, load, store, copy, look, begin_with, pick, arithmetic, compare, negate, complement, invert, absolute, odd, upper, low_bits, check, neighbour, single, span, combine, contains, check_set, primitive}
 use Rattle.op_meaning.specs.Costs.{numbers, action_bytes, given_bytes, work_bytes, cost}
 use Rattle.op_meaning.specs.Calls.{source_rules}
 use Rattle.op_meaning.specs.Ending.{closed}
@@ -64,10 +64,7 @@ moved_less core (span to a b) = omega arith
 moved_less core (combine o to a b) = omega arith
 moved_less core (contains to a b) = omega arith
 moved_less core (check_set all to a) = omega arith
-moved_less core (write_number a width) = omega arith
-moved_less core (write_truth a width) = omega arith
-moved_less core (write_char a width) = omega arith
-moved_less core (write_text chars width) = omega arith
+moved_less core (primitive p operands to) = omega arith
 
 module _ (p : Program) (s t : State) (from : MirState) (work : List Task) where
   -- at no more than what the work costs above

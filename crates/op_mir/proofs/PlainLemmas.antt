@@ -10,15 +10,16 @@ use Rattle.op_core.specs.declared.constant.Const.TheVariants.{Ordinal, Text, Set
 use Rattle.op_core.specs.declared.ids.TypeId.{TypeId}
 use Rattle.op_core.specs.declared.program.Core.{Core}
 use Rattle.op_core.specs.declared.types.CoreType.{CoreType}
-use Rattle.op_meaning.specs.Actions.{Action, constant, load, store, copy, look, begin_with, pick, arithmetic, compare, negate, complement, invert, absolute, odd, upper, low_bits, check, neighbour, single, span, combine, contains, check_set, write_number, write_truth, write_char, write_text, at_place, perform}
+use Rattle.op_meaning.specs.Actions.{Action, constant, load, store, copy, look, begin_with, pick, arithmetic, compare, negate, complement, invert, absolute, odd, upper, low_bits, check, neighbour, single, span, combine, contains, check_set, primitive, at_place, perform}
 use Rattle.op_meaning.specs.Calls.{Handed, a_value, a_place, handed, with_handed, all_handed, given_one, given_all, cleared, entered, received}
 use Rattle.op_meaning.specs.Errors.{failed, stopped}
 use Rattle.op_meaning.specs.Frames.{Program}
 use Rattle.op_meaning.specs.Items.{Given, by_value, by_reference, by_place, by_copy, Receiver, nowhere, to_temp, to_place}
 use Rattle.op_meaning.specs.Leaving.{name_in}
 use Rattle.op_meaning.specs.Paths.{place_of}
+use Rattle.op_meaning.specs.Primitives.{Destination, Given as GivenValue, Outcome, gives, in_temp, meaning, performed, signature, unused, values_of, with_given}
 use Rattle.op_meaning.specs.Shapes.{Shape, single as one_number, composite, of_chars, of_elements, of_instance, zero_of, zero_by, zero_within, shape_of, first_of, nth_first, part_type, value_of_constant, type_of_local}
-use Rattle.op_meaning.specs.Values.{Value, number, parts, text, line, array, instance, Holder, global, local, temporary, object, Place, all_of, get, put, part_of}
+use Rattle.op_meaning.specs.Values.{Reached, reached, failing, Value, number, parts, text, line, array, instance, Holder, global, local, temporary, object, Place, all_of, get, put, part_of}
 use Rattle.op_meaning.specs.World.{World, Ended, with_temp, with_number, with_value, value_at, written}
 use Rattle.op_mir.specs.Plain.{IsNameless, IsPlainWorld}
 
@@ -132,6 +133,15 @@ module _ (core : Core) (e : core.exceptions ≡ None) where
   failed_or_plain : (b : Bool) (n : ℕ) (v w : World) → IsPlainWorld v → IsPlainWorld w → IsPlainWorld (if b then failed core n w else v)
   failed_or_plain b n v w hv h = plain_if b (failed core n w) v (plain_failed n w h) hv
 
+  plain_destined : (b : Bool) (n : GivenValue b) (to : Destination) (w : World) → IsPlainWorld w → IsPlainWorld (with_given b n to w)
+  plain_destined true n unused w h = h
+  plain_destined true n (in_temp t) w h = plain_number t n w h
+  plain_destined false none to w h = h
+
+  plain_performed : (b : Bool) (to : Destination) (o : Reached (Outcome b)) (w : World) → IsPlainWorld w → IsPlainWorld (performed core to o w)
+  plain_performed b to (reached o) w h = plain_destined b o.value to (written o.bytes w) (plain_written o.bytes w h)
+  plain_performed b to (failing error) w h = plain_failed error w h
+
   pub plain_perform : (a : Action) (w : World) → IsPlainWorld w → IsPlainWorld (perform core a w)
   unfolding perform
   plain_perform (constant to n) w h = plain_number to _ w h
@@ -157,10 +167,7 @@ module _ (core : Core) (e : core.exceptions ≡ None) where
   plain_perform (combine o to a b) w h = plain_number to _ w h
   plain_perform (contains to a b) w h = plain_number to _ w h
   plain_perform (check_set all to a) w h = plain_or_failed _ 201 _ w (plain_number to _ w h) h
-  plain_perform (write_number a width) w h = plain_written _ w h
-  plain_perform (write_truth a width) w h = plain_written _ w h
-  plain_perform (write_char a width) w h = plain_written _ w h
-  plain_perform (write_text chars width) w h = plain_written _ w h
+  plain_perform (primitive p operands to) w h = plain_performed (gives p) to (meaning p (values_of w (signature p) operands)) w h
 
   -- ---- results
 

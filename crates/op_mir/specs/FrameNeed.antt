@@ -11,8 +11,9 @@ use Rattle.op_core.specs.declared.program.Core.{Core}
 use Rattle.op_core.specs.declared.routine.Variable.{Variable}
 use Rattle.op_meaning.specs.Shapes.{is_reference, result_of_routine, variables_of}
 use Rattle.op_mir.specs.declared.action.Action.{Action}
-use Rattle.op_mir.specs.declared.action.Action.TheVariants.{Constant, Load, Store, Copy, Look, BeginWith, Pick, Compute, Write, WriteText}
-use Rattle.op_mir.specs.declared.action.Writing.{Writing}
+use Rattle.op_mir.specs.declared.action.Action.TheVariants.{Constant, Load, Store, Copy, Look, BeginWith, Pick, Compute, Do}
+use Rattle.op_mir.specs.declared.action.Operand.{Operand}
+use Rattle.op_mir.specs.declared.action.Operand.TheVariants.{Number, Literal}
 use Rattle.op_mir.specs.declared.code.Block.{Block}
 use Rattle.op_mir.specs.declared.code.Routine.{Routine}
 use Rattle.op_mir.specs.declared.instruction.Call.{Call as Operands}
@@ -70,8 +71,7 @@ roots_of_action (Constant to n) = []
 roots_of_action (BeginWith v) = []
 roots_of_action (Pick to text index) = []
 roots_of_action (Compute computation) = []
-roots_of_action (Write writing) = []
-roots_of_action (WriteText text width) = []
+roots_of_action (Do p operands to) = []
 
 abbrev pub roots_of_given : Given → List Root
 roots_of_given (ByPlace path) = path.root ∷ []
@@ -105,6 +105,11 @@ roots_named blocks = flat_map (λ b. flat_map roots_of_instruction b.code) block
 abbrev pub path_words : Path → ℕ
 path_words path = 1 + 2 * length path.steps
 
+-- a literal takes one for its address and one for its length
+unfoldable pub operand_words : Operand → ℕ
+operand_words (Number t) = 0
+operand_words (Literal text) = 2
+
 unfoldable pub action_words : Action → ℕ
 action_words (Constant to n) = 0
 action_words (Load to kind from) = path_words from
@@ -114,8 +119,7 @@ action_words (Look at) = path_words at + 1
 action_words (BeginWith v) = 0
 action_words (Pick to text index) = 3
 action_words (Compute computation) = 3
-action_words (Write writing) = 1
-action_words (WriteText text width) = 3
+action_words (Do p operands to) = 1 + sum_by operand_words operands
 
 unfoldable pub given_words : Given → ℕ
 given_words (ByValue kind t) = 1

@@ -20,10 +20,17 @@ use Rattle.op_core.specs.declared.routine.Variable.{Variable}
 use Rattle.op_core.specs.declared.types.CoreType.{CoreType}
 use Rattle.op_core.specs.declared.types.CoreType.TheVariants.{Record, Array}
 use Rattle.op_core.specs.declared.types.IntegerKind.{IntegerKind}
+use Rattle.op_meaning.specs.Primitives.{gives, signature}
 use Rattle.op_meaning.specs.Shapes.{is_reference, shape_of}
+use Rattle.op_meaning.specs.declared.primitive.Sort.{Sort}
+use Rattle.op_meaning.specs.declared.primitive.Sort.TheVariants.{Numeric, Textual}
 use Rattle.op_mir.specs.Shapes.{is_composite, kind_of}
 use Rattle.op_mir.specs.declared.action.Action.{Action}
-use Rattle.op_mir.specs.declared.action.Action.TheVariants.{Constant, Load, Store, Copy, Look, BeginWith, Pick, Compute, Write, WriteText}
+use Rattle.op_mir.specs.declared.action.Action.TheVariants.{Constant, Load, Store, Copy, Look, BeginWith, Pick, Compute, Do}
+use Rattle.op_mir.specs.declared.action.Destination.{Destination}
+use Rattle.op_mir.specs.declared.action.Destination.TheVariants.{Unused, InTemporary}
+use Rattle.op_mir.specs.declared.action.Operand.{Operand}
+use Rattle.op_mir.specs.declared.action.Operand.TheVariants.{Number, Literal}
 use Rattle.op_mir.specs.declared.ids.LocalId.{LocalId}
 use Rattle.op_mir.specs.declared.instruction.Call.{Call as Operands}
 use Rattle.op_mir.specs.declared.instruction.Given.{Given}
@@ -141,7 +148,26 @@ is_begun core (Some of) = is_number core of || is_composite (shape_of core of)
 abbrev pub begins : Core → Run → LocalId → Bool
 begins core variables v = is_begun core (of_own (slice_get (rows core.variables variables) v.0))
 
--- numbers are loaded and stored as their places keep them, and values with parts are copied
+-- the operand is of the sort
+unfoldable pub is_taken : Sort → Operand → Bool
+is_taken Numeric (Number t) = true
+is_taken Numeric (Literal text) = false
+is_taken Textual (Number t) = false
+is_taken Textual (Literal text) = true
+
+-- each is, in order
+abbrev pub are_taken : List Sort → List Operand → Bool
+are_taken [] [] = true
+are_taken (s ∷ sorts) (o ∷ os) = is_taken s o && are_taken sorts os
+are_taken [] (o ∷ os) = false
+are_taken (s ∷ sorts) [] = false
+
+-- what is given goes to a temporary, and nothing does where nothing is given
+unfoldable pub is_destined : Bool → Destination → Bool
+is_destined some Unused = not some
+is_destined some (InTemporary t) = some
+
+-- numbers are loaded and stored as their places keep them, values with parts are copied, and a primitive has the operands that it takes
 unfoldable pub has_kinds : Core → Run → Action → Bool
 has_kinds core variables (Constant to n) = true
 has_kinds core variables (Load to kind from) = leads_to_kind core variables from kind
@@ -151,8 +177,7 @@ has_kinds core variables (Look at) = is_found (type_of_path core variables at)
 has_kinds core variables (BeginWith v) = begins core variables v
 has_kinds core variables (Pick to text index) = true
 has_kinds core variables (Compute computation) = true
-has_kinds core variables (Write writing) = true
-has_kinds core variables (WriteText text width) = true
+has_kinds core variables (Do p operands to) = are_taken (signature p) operands && is_destined (gives p) to
 
 -- ---- calls
 

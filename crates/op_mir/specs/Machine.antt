@@ -8,7 +8,7 @@ use Rattle.op_simulation.specs.System.{System}
 use Rattle.op_core.specs.Statement.{no_statements}
 use Rattle.op_core.specs.declared.ids.TypeId.{TypeId}
 use Rattle.op_core.specs.declared.program.Core.{Core}
-use Rattle.op_meaning.specs.Actions.{Action, constant, load, store, copy, look, begin_with, pick, arithmetic, compare, negate, complement, invert, absolute, odd, upper, low_bits, check, neighbour, single, span, combine, contains, check_set, write_number, write_truth, write_char, write_text, perform}
+use Rattle.op_meaning.specs.Actions.{Action, constant, load, store, copy, look, begin_with, pick, arithmetic, compare, negate, complement, invert, absolute, odd, upper, low_bits, check, neighbour, single, span, combine, contains, check_set, primitive, perform}
 use Rattle.op_meaning.specs.Calls.{called}
 use Rattle.op_meaning.specs.Costs.{indices, given_bytes}
 use Rattle.op_meaning.specs.Demands.{size_of, Demand, nothing, block_of, is_standing}
@@ -186,10 +186,7 @@ moved core (span to a b) = 0
 moved core (combine o to a b) = 0
 moved core (contains to a b) = 0
 moved core (check_set all to a) = 0
-moved core (write_number from width) = 0
-moved core (write_truth from width) = 0
-moved core (write_char from width) = 0
-moved core (write_text text width) = 0
+moved core (primitive p operands to) = 0
 
 abbrev result_bytes : Core → Option TypeId → ℕ
 result_bytes core None = 0

@@ -12,11 +12,13 @@ use Rattle.op_meaning.specs.Shapes.{variables_of}
 use Rattle.op_mir.specs.FrameNeed.{frame_need}
 use Rattle.op_mir.specs.Kinds.{calls, has_kinds, is_part}
 use Rattle.op_mir.specs.declared.action.Action.{Action}
-use Rattle.op_mir.specs.declared.action.Action.TheVariants.{Constant, Load, Store, Copy, Look, BeginWith, Pick, Compute, Write, WriteText}
+use Rattle.op_mir.specs.declared.action.Action.TheVariants.{Constant, Load, Store, Copy, Look, BeginWith, Pick, Compute, Do}
 use Rattle.op_mir.specs.declared.action.Computation.{Computation}
 use Rattle.op_mir.specs.declared.action.Computation.TheVariants.{Arithmetic, Compare, Negate, Complement, Invert, Absolute, Odd, Upper, LowBits, Check, Neighbour, Single, Span, Combine, Contains, CheckSet}
-use Rattle.op_mir.specs.declared.action.Writing.{Writing}
-use Rattle.op_mir.specs.declared.action.Writing.TheVariants.{Number, Truth, Char}
+use Rattle.op_mir.specs.declared.action.Destination.{Destination}
+use Rattle.op_mir.specs.declared.action.Destination.TheVariants.{Unused, InTemporary}
+use Rattle.op_mir.specs.declared.action.Operand.{Operand}
+use Rattle.op_mir.specs.declared.action.Operand.TheVariants.{Number, Literal}
 use Rattle.op_mir.specs.declared.code.Block.{Block}
 use Rattle.op_mir.specs.declared.code.Mir.{Mir}
 use Rattle.op_mir.specs.declared.code.Routine.{Routine}
@@ -117,10 +119,13 @@ computation_fits routine (Combine operator to left right) = has_three routine to
 computation_fits routine (Contains to element set) = has_three routine to element set
 computation_fits routine (CheckSet all to from) = has_two routine to from
 
-unfoldable pub writing_fits : Routine → Writing → Bool
-writing_fits routine (Number from width) = has_two routine from width
-writing_fits routine (Truth from width) = has_two routine from width
-writing_fits routine (Char from width) = has_two routine from width
+unfoldable pub operand_fits : Routine → Operand → Bool
+operand_fits routine (Number t) = has routine t
+operand_fits routine (Literal text) = true
+
+unfoldable pub destination_fits : Routine → Destination → Bool
+destination_fits routine Unused = true
+destination_fits routine (InTemporary t) = has routine t
 
 unfoldable pub action_fits : Mir → Routine → Action → Bool
 action_fits mir routine (Constant to n) = has routine to
@@ -131,8 +136,7 @@ action_fits mir routine (Look at) = path_fits mir routine at
 action_fits mir routine (BeginWith v) = has_local routine v
 action_fits mir routine (Pick to text index) = has_two routine to index
 action_fits mir routine (Compute computation) = computation_fits routine computation
-action_fits mir routine (Write writing) = writing_fits routine writing
-action_fits mir routine (WriteText text width) = has routine width
+action_fits mir routine (Do p operands to) = list_all (operand_fits routine) operands && destination_fits routine to
 
 -- ---- instructions
 

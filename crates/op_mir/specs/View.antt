@@ -3,19 +3,22 @@
 use Rattle.std.specs.Prelude.{ℕ, ◌+◌, List, [], Option, Some, None, slice_get, map, length, nat_eq, if◌then◌else◌}
 use Rattle.op_core.specs.Initial.{FirstValue, parts as first_parts, no_values}
 use Rattle.op_core.specs.declared.program.Core.{Core}
-use Rattle.op_meaning.specs.Actions.{Action as MeantAction, constant, load, store, copy, look, begin_with, pick, arithmetic, compare, negate, complement, invert, absolute, odd, upper, low_bits, check, neighbour, single, span, combine, contains, check_set, write_number, write_truth, write_char, write_text}
+use Rattle.op_meaning.specs.Actions.{Action as MeantAction, constant, load, store, copy, look, begin_with, pick, arithmetic, compare, negate, complement, invert, absolute, odd, upper, low_bits, check, neighbour, single, span, combine, contains, check_set, primitive}
 use Rattle.op_meaning.specs.Frames.{program_of}
 use Rattle.op_meaning.specs.Items.{Given as MeantGiven, by_value, by_reference, by_place, by_copy, Receiver as MeantReceiver, nowhere, to_temp, to_place, none}
 use Rattle.op_meaning.specs.Paths.{Path as MeantPath, Root as MeantRoot, in_global, in_local, through, in_temporary, Step as MeantStep, field, element}
+use Rattle.op_meaning.specs.Primitives.{Destination as MeantDestination, Operand as MeantOperand, from_temp, in_temp, literal_text, unused}
 use Rattle.op_meaning.specs.Shapes.{type_of_local, variables_of}
 use Rattle.op_mir.specs.Code.{Instr, do_act, do_call, jump, when, unless, switch, dispatch, make_due, stop, ret, Arm as MeantArm, blocks_of}
 use Rattle.op_mir.specs.Machine.{Code}
 use Rattle.op_mir.specs.declared.action.Action.{Action}
-use Rattle.op_mir.specs.declared.action.Action.TheVariants.{Constant, Load, Store, Copy, Look, BeginWith, Pick, Compute, Write, WriteText}
+use Rattle.op_mir.specs.declared.action.Action.TheVariants.{Constant, Load, Store, Copy, Look, BeginWith, Pick, Compute, Do}
 use Rattle.op_mir.specs.declared.action.Computation.{Computation}
 use Rattle.op_mir.specs.declared.action.Computation.TheVariants.{Arithmetic, Compare, Negate, Complement, Invert, Absolute, Odd, Upper, LowBits, Check, Neighbour, Single, Span, Combine, Contains, CheckSet}
-use Rattle.op_mir.specs.declared.action.Writing.{Writing}
-use Rattle.op_mir.specs.declared.action.Writing.TheVariants.{Number, Truth, Char}
+use Rattle.op_mir.specs.declared.action.Destination.{Destination}
+use Rattle.op_mir.specs.declared.action.Destination.TheVariants.{Unused, InTemporary}
+use Rattle.op_mir.specs.declared.action.Operand.{Operand}
+use Rattle.op_mir.specs.declared.action.Operand.TheVariants.{Number, Literal}
 use Rattle.op_mir.specs.declared.code.Block.{Block}
 use Rattle.op_mir.specs.declared.code.Mir.{Mir}
 use Rattle.op_mir.specs.declared.code.Routine.{Routine}
@@ -76,10 +79,13 @@ view_computation (Combine o to a b) = combine o to.0 a.0 b.0
 view_computation (Contains to a b) = contains to.0 a.0 b.0
 view_computation (CheckSet all to a) = check_set all to.0 a.0
 
-abbrev pub view_writing : Writing → MeantAction
-view_writing (Number a width) = write_number a.0 width.0
-view_writing (Truth a width) = write_truth a.0 width.0
-view_writing (Char a width) = write_char a.0 width.0
+abbrev pub view_operand : Operand → MeantOperand
+view_operand (Number t) = from_temp t.0
+view_operand (Literal text) = literal_text text
+
+abbrev pub view_destination : Destination → MeantDestination
+view_destination Unused = unused
+view_destination (InTemporary t) = in_temp t.0
 
 -- in a routine of the number
 abbrev pub view_action : Core → ℕ → Action → MeantAction
@@ -91,8 +97,7 @@ view_action core r (Look at) = look (view_path at)
 view_action core r (BeginWith v) = begin_with v.0 (type_of_local core r v.0) (first_at core r v.0)
 view_action core r (Pick to text index) = pick to.0 text index.0
 view_action core r (Compute computation) = view_computation computation
-view_action core r (Write writing) = view_writing writing
-view_action core r (WriteText text width) = write_text text width.0
+view_action core r (Do p operands to) = primitive p (map view_operand operands) (view_destination to)
 
 -- ---- instructions
 

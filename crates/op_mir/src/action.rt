@@ -1,7 +1,9 @@
 //! Actions: what an activation does in one step between two branches. Operands and what they give are in temporaries.
 
 use crate::{LocalId, Path, TemporaryId};
+use op_base::Sequence;
 use op_core::{IntegerKind, TypeId};
+use op_meaning::Primitive;
 use op_scan::CompactText;
 use op_tree::Operator;
 
@@ -103,21 +105,19 @@ pub enum Computation {
     },
 }
 
-/// Of a value, to the console, with blanks in front up to a width.
+/// What a primitive looks at.
+#[derive(Drop)]
+pub enum Operand {
+    Number(TemporaryId),
+    Literal(CompactText),
+}
+
+/// Where what a primitive gives goes.
 #[derive(Clone, Copy)]
-pub enum Writing {
-    Number {
-        from: TemporaryId,
-        width: TemporaryId,
-    },
-    Truth {
-        from: TemporaryId,
-        width: TemporaryId,
-    },
-    Char {
-        from: TemporaryId,
-        width: TemporaryId,
-    },
+pub enum Destination {
+    /// Nothing is given.
+    Unused,
+    InTemporary(TemporaryId),
 }
 
 /// What is done in one step.
@@ -158,10 +158,10 @@ pub enum Action {
         index: TemporaryId,
     },
     Compute(Computation),
-    Write(Writing),
-    /// Writes a literal, as `Writing` says.
-    WriteText {
-        text: CompactText,
-        width: TemporaryId,
+    /// What a run-time routine does.
+    Do {
+        primitive: Primitive,
+        operands: Sequence<Operand>,
+        to: Destination,
     },
 }

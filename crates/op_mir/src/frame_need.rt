@@ -1,14 +1,16 @@
 //! How many bytes of the stack an activation of a routine needs for its frame.
 ghost use Rattle.op_core.specs.Rows.{rows};
 ghost use Rattle.op_meaning.specs.Shapes.{result_of_routine};
-ghost use Rattle.op_mir.specs.FrameNeed.{action_words, bytes_before, call_words, each_once, first_words, frame_need, given_words, instruction_words, is_one_root, most_words, path_words, receiver_words, roots_named, roots_of_action, roots_of_given, roots_of_instruction, roots_of_receiver, rounded, size_of_root, variable_bytes};
+ghost use Rattle.op_mir.specs.FrameNeed.{action_words, bytes_before, call_words, each_once, first_words, frame_need, given_words, instruction_words, is_one_root, most_words, operand_words, path_words, receiver_words, roots_named, roots_of_action, roots_of_given, roots_of_instruction, roots_of_receiver, rounded, size_of_root, variable_bytes};
 ghost use Rattle.std.specs.List.{flat_map, list_any, sum_by};
 ghost use Rattle.std.specs.Option.{option_to_list};
 ghost use Rattle.std.specs.Prelude.{◌≡◌, ◌≤◌, ◌||◌, ◌+◌, ◌-◌, ◌^◌, ◌++◌, [], ◌∷◌, min};
 
 use crate::kinds::is_reference;
 use crate::validity::variables_of;
-use crate::{Action, Block, Call, Given, Instruction, Path, Receiver, Root, Routine, one_root};
+use crate::{
+    Action, Block, Call, Given, Instruction, Operand, Path, Receiver, Root, Routine, one_root,
+};
 use op_core::{Core, Owner, Variable, size_of};
 
 /// What the frame of the routine with the number needs, in bytes. Where that is more than 2^64 - 1 the answer is that number.
@@ -169,8 +171,32 @@ fn action_words(action: &Action) -> u64
             index: _,
         } => 3,
         Action::Compute(_) => 3,
-        Action::Write(_) => 1,
-        Action::WriteText { text: _, width: _ } => 3,
+        Action::Do {
+            primitive: _,
+            operands,
+            to: _,
+        } => operands_words(operands.as_slice()),
+    }
+}
+
+/// What is given takes one.
+fn operands_words(operands: &[Operand]) -> u64
+    ensures { result ≡ min (1 + sum_by operand_words operands.now) (2 ^ 64 - 1) }
+{
+    let mut sum = 1u64;
+    for operand in operands {
+        sum = sum.saturating_add(operand_words(operand));
+    }
+    sum
+}
+
+#[tactic(auto, unfolding(crate::specs::FrameNeed::operand_words))]
+fn operand_words(operand: &Operand) -> u64
+    ensures { result ≡ operand_words operand.now }
+{
+    match operand {
+        Operand::Number(_) => 0,
+        Operand::Literal(_) => 2,
     }
 }
 

@@ -1,17 +1,19 @@
 //! Whether operands of managed code have their kinds.
 ghost use Rattle.op_core.specs.Rows.{rows};
 ghost use Rattle.op_core.specs.Sizes.{range_of, type_at};
+ghost use Rattle.op_meaning.specs.Primitives.{gives, signature};
 ghost use Rattle.op_meaning.specs.Shapes.{is_reference, shape_of};
-ghost use Rattle.op_mir.specs.Kinds.{are_from, are_given, begins, calls, copies, has_kinds, is_given, is_kept_as, is_number, is_of_unit, is_part, is_received, is_same_range, leads_to, leads_to_kind, of_own, of_referred, type_behind, type_of_element, type_of_field, type_of_path, type_of_root};
+ghost use Rattle.op_mir.specs.Kinds.{are_from, are_given, are_taken, begins, calls, copies, has_kinds, is_destined, is_given, is_kept_as, is_number, is_of_unit, is_part, is_received, is_same_range, is_taken, leads_to, leads_to_kind, of_own, of_referred, type_behind, type_of_element, type_of_field, type_of_path, type_of_root};
 ghost use Rattle.std.specs.List.{list_any};
 ghost use Rattle.std.specs.Prelude.{◌≡◌, nat_eq, slice_get};
 
 use crate::shape::{is_composite, single_kind};
-use crate::{Action, Call, Given, LocalId, Path, Receiver, Root, Step};
+use crate::{Action, Call, Destination, Given, LocalId, Operand, Path, Receiver, Root, Step};
 use op_core::{
     Core, CoreType, IntegerKind, Owner, Parameter, Role, RoutineId, Run, TypeId, VariableId,
     integer_range, range_of, type_at,
 };
+use op_meaning::Sort;
 use op_tree::ParameterMode;
 
 // ---- types
@@ -239,8 +241,56 @@ pub(crate) fn has_kinds(core: &Core, variables: Run, action: &Action) -> bool
             index: _,
         } => true,
         Action::Compute(_) => true,
-        Action::Write(_) => true,
-        Action::WriteText { text: _, width: _ } => true,
+        Action::Do {
+            primitive,
+            operands,
+            to,
+        } => {
+            are_taken(primitive.signature(), operands.as_slice())
+                && is_destined(primitive.gives(), *to)
+        }
+    }
+}
+
+/// Whether each operand is of its sort, in order.
+fn are_taken(sorts: &[Sort], operands: &[Operand]) -> bool
+    ensures { result ≡ are_taken sorts.now operands.now }
+{
+    match sorts.split_first() {
+        None => match operands.split_first() {
+            None => true,
+            Some(_) => false,
+        },
+        Some((sort, others)) => match operands.split_first() {
+            None => false,
+            Some((operand, rest)) => is_taken(*sort, operand) && are_taken(others, rest),
+        },
+    }
+}
+
+#[tactic(auto, unfolding(crate::specs::Kinds::is_taken))]
+fn is_taken(sort: Sort, operand: &Operand) -> bool
+    ensures { result ≡ is_taken sort operand.now }
+{
+    match sort {
+        Sort::Numeric => match operand {
+            Operand::Number(_) => true,
+            Operand::Literal(_) => false,
+        },
+        Sort::Textual => match operand {
+            Operand::Number(_) => false,
+            Operand::Literal(_) => true,
+        },
+    }
+}
+
+#[tactic(auto, unfolding(crate::specs::Kinds::is_destined))]
+fn is_destined(gives: bool, to: Destination) -> bool
+    ensures { result ≡ is_destined gives to }
+{
+    match to {
+        Destination::Unused => !gives,
+        Destination::InTemporary(_) => gives,
     }
 }
 

@@ -17,7 +17,7 @@ mod shape;
 mod theorems;
 mod validity;
 
-pub use action::{Action, Computation, Writing};
+pub use action::{Action, Computation, Destination, Operand};
 pub use code::{Block, Counts, Mir, Routine};
 pub use ids::{BlockId, LocalId, TemporaryId};
 pub use instruction::{Arm, Call, Given, Instruction, Receiver};

@@ -1,7 +1,7 @@
 //! Whether managed code names only what exists, has operands of their kinds, and needs no more than there is.
 ghost use Rattle.op_core.specs.Sound.{bytes_of, globals_of};
 ghost use Rattle.op_meaning.specs.Shapes.{variables_of};
-ghost use Rattle.op_mir.specs.Valid.{act_fits, action_fits, all_given_fit, are_valid_from, arm_fits, branch_fits, call_fits, computation_fits, copied_fits, copy_fits, dispatch_fits, given_fits, globals_have_room, has, has_block, has_landing, has_local, has_next, has_routine, has_tables, has_three, has_two, has_type, has_variable, has_ways, is_charged, is_valid, is_valid_block, is_valid_instruction, is_valid_routine, leaves, leaves_if, load_fits, part_fits, path_fits, receiver_fits, root_fits, step_fits, switch_fits, writing_fits};
+ghost use Rattle.op_mir.specs.Valid.{act_fits, action_fits, all_given_fit, are_valid_from, arm_fits, branch_fits, call_fits, computation_fits, copied_fits, copy_fits, destination_fits, dispatch_fits, given_fits, globals_have_room, has, has_block, has_landing, has_local, has_next, has_routine, has_tables, has_three, has_two, has_type, has_variable, has_ways, is_charged, is_valid, is_valid_block, is_valid_instruction, is_valid_routine, leaves, leaves_if, load_fits, operand_fits, part_fits, path_fits, receiver_fits, root_fits, step_fits, switch_fits};
 ghost use Rattle.std.specs.List.{list_all};
 ghost use Rattle.std.specs.Option.{option_to_list};
 ghost use Rattle.std.specs.Prelude.{◌≡◌, ◌-◌, length, slice_get};
@@ -9,8 +9,8 @@ ghost use Rattle.std.specs.Prelude.{◌≡◌, ◌-◌, length, slice_get};
 use crate::frame_need::frame_need;
 use crate::kinds::{calls, has_kinds, is_part};
 use crate::{
-    Action, Arm, Block, BlockId, Call, Computation, Given, Instruction, LocalId, Mir, Path,
-    Receiver, Root, Routine, Step, TemporaryId, Writing,
+    Action, Arm, Block, BlockId, Call, Computation, Destination, Given, Instruction, LocalId, Mir,
+    Operand, Path, Receiver, Root, Routine, Step, TemporaryId,
 };
 use op_core::{Core, RoutineId, Run, TypeId, VariableId, size_of};
 
@@ -286,8 +286,11 @@ fn valid_action(mir: &Mir, routine: &Routine, action: &Action) -> bool
         Action::BeginWith { variable } => names_local(routine, *variable),
         Action::Pick { to, text: _, index } => has_both(routine, *to, *index),
         Action::Compute(computation) => valid_computation(routine, *computation),
-        Action::Write(writing) => valid_writing(routine, *writing),
-        Action::WriteText { text: _, width } => has_one(routine, *width),
+        Action::Do {
+            primitive: _,
+            operands,
+            to,
+        } => all_operands(routine, operands.as_slice()) && valid_destination(routine, *to),
     }
 }
 
@@ -371,14 +374,31 @@ fn valid_computation(routine: &Routine, computation: Computation) -> bool
     }
 }
 
-#[tactic(auto, unfolding(crate::specs::Valid::writing_fits))]
-fn valid_writing(routine: &Routine, writing: Writing) -> bool
-    ensures { result ≡ writing_fits routine.now writing }
+fn all_operands(routine: &Routine, operands: &[Operand]) -> bool
+    ensures { result ≡ list_all (operand_fits routine.now) operands.now }
 {
-    match writing {
-        Writing::Number { from, width } => has_both(routine, from, width),
-        Writing::Truth { from, width } => has_both(routine, from, width),
-        Writing::Char { from, width } => has_both(routine, from, width),
+    operands
+        .iter()
+        .all(|operand| valid_operand(routine, operand))
+}
+
+#[tactic(auto, unfolding(crate::specs::Valid::operand_fits))]
+fn valid_operand(routine: &Routine, operand: &Operand) -> bool
+    ensures { result ≡ operand_fits routine.now operand.now }
+{
+    match operand {
+        Operand::Number(temporary) => has_one(routine, *temporary),
+        Operand::Literal(_) => true,
+    }
+}
+
+#[tactic(auto, unfolding(crate::specs::Valid::destination_fits))]
+fn valid_destination(routine: &Routine, to: Destination) -> bool
+    ensures { result ≡ destination_fits routine.now to }
+{
+    match to {
+        Destination::Unused => true,
+        Destination::InTemporary(temporary) => has_one(routine, temporary),
     }
 }
 

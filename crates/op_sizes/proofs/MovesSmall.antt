@@ -15,8 +15,9 @@ use Rattle.op_core.specs.declared.types.IntegerKind.{IntegerKind}
 use Rattle.op_core.specs.declared.types.IntegerKind.TheVariants.{Signed8, Unsigned8, Signed16, Unsigned16, Signed32}
 use Rattle.op_expand.specs.Calls.{call_code, charge_of, charging_code, given_code, given_spot, givens_code, givens_in, left, number_code, parts_code, receiver_code, receiver_of, receiver_spot, result_address, return_code, runtime, value_code, has_closing, closing_call}
 use Rattle.op_expand.specs.Homes.{parameter, rounded}
-use Rattle.op_expand.specs.Moves.{action_code, begun_by, begun_code, composite_begun, zeros_begun, by_words, bytes_code, copy_code, copy_number, held, is_short, limit_of, load_code, load_op, near, number_begun, parts_begun, row_of, store_code, store_op, taken_code, unit_code, units_code, units_in, writing_code}
+use Rattle.op_expand.specs.Moves.{action_code, begun_by, begun_code, composite_begun, zeros_begun, by_words, bytes_code, copy_code, copy_number, held, is_short, limit_of, load_code, load_op, near, number_begun, parts_begun, row_of, store_code, store_op, taken_code, unit_code, units_code, units_in}
 use Rattle.op_expand.specs.Places.{after, at_register, behind_code, element_code, home_code, home_of, home_spot, index_code, place_code, place_of, power_of, reach_code, scale_code, scaled, step_code, step_spot, steps_code, steps_spot}
+use Rattle.op_expand.specs.Primitives.{destination_register, operands_code, operands_passed, primitive_code, routine_of}
 use Rattle.op_expand.specs.Routines.{instruction_code}
 use Rattle.op_expand.specs.declared.frame.Frame.{Frame}
 use Rattle.op_expand.specs.declared.frame.Returning.{Returning}
@@ -28,11 +29,13 @@ use Rattle.op_low.specs.declared.ids.VirtualRegister.{VirtualRegister}
 use Rattle.op_low.specs.declared.instruction.Instruction.TheVariants.{Alu, Branch, Const, Local as LocalAddress, Load as LoadWord, Return as LowReturn, Shift, Store as StoreWord, Exit, Move}
 use Rattle.op_meaning.specs.Shapes.{shape_of, type_of_row}
 use Rattle.op_meaning.specs.Statements.{kind_of}
-use Rattle.op_mir.specs.View.{view_action, view_given, view_instruction, view_path, view_receiver, view_step}
+use Rattle.op_meaning.specs.declared.primitive.Primitive.{Primitive}
+use Rattle.op_mir.specs.View.{view_action, view_given, view_instruction, view_operand, view_path, view_receiver, view_step}
 use Rattle.op_mir.specs.declared.action.Action.{Action}
-use Rattle.op_mir.specs.declared.action.Action.TheVariants.{Constant, Load, Store, Copy, Look, BeginWith, Pick, Compute, Write, WriteText}
-use Rattle.op_mir.specs.declared.action.Writing.{Writing}
-use Rattle.op_mir.specs.declared.action.Writing.TheVariants.{Number, Truth, Char}
+use Rattle.op_mir.specs.declared.action.Action.TheVariants.{Constant, Load, Store, Copy, Look, BeginWith, Pick, Compute, Do}
+use Rattle.op_mir.specs.declared.action.Destination.{Destination}
+use Rattle.op_mir.specs.declared.action.Operand.{Operand}
+use Rattle.op_mir.specs.declared.action.Operand.TheVariants.{Number, Literal}
 use Rattle.op_mir.specs.declared.code.Mir.{Mir}
 use Rattle.op_mir.specs.declared.ids.LocalId.{LocalId}
 use Rattle.op_mir.specs.declared.instruction.Call.{Call}
@@ -54,7 +57,7 @@ use Rattle.op_rv.specs.declared.instruction.BranchOp.TheVariants.{Bltu}
 use Rattle.op_rv.specs.declared.instruction.ShiftOp.TheVariants.{Slli}
 use Rattle.op_rv.specs.declared.instruction.StoreOp.TheVariants.{Sw}
 use Rattle.op_sizes.proofs.ComputingSmall.{join, either, sum_small, distance_small, constant_small, low_bits_small, computation_small, true_small, false_small, switch_small, dispatch_small}
-use Rattle.op_sizes.specs.Sizes.{path_size, action_size, given_size, givens_size, receiver_size, instruction_size}
+use Rattle.op_sizes.specs.Sizes.{path_size, action_size, operands_size, given_size, givens_size, receiver_size, instruction_size}
 use Rattle.op_sizes.specs.Weights.{code_weight}
 
 -- ---- places
@@ -221,10 +224,16 @@ module _ (core : Core) (frame : Frame) where
 
   -- ---- actions
 
-  writing_small : (w : Writing) → code_weight (writing_code frame w) ≤ 6
-  writing_small (Number from width) = omega arith
-  writing_small (Truth from width) = omega arith
-  writing_small (Char from width) = omega arith
+  operands_small : (texts : List (List ℕ)) (used : ℕ) (os : List Operand) → code_weight (operands_code frame texts used os) + length (operands_passed frame used os) ≤ operands_size (map view_operand os)
+  operands_small texts used [] = omega arith
+  operands_small texts used (Number t ∷ os) = let rest = operands_small texts (used + 0) os in omega (arith, rest)
+  operands_small texts used (Literal text ∷ os) = let rest = operands_small texts (used + 2) os in omega (arith, rest)
+
+  primitive_small : (texts : List (List ℕ)) (p : Primitive) (os : List Operand) (to : Destination) → code_weight (primitive_code frame texts p os to) ≤ 1 + operands_size (map view_operand os)
+  primitive_small texts p os to =
+      let all = join (operands_code frame texts 0 os) (call (routine_of p) (operands_passed frame 0 os) (destination_register frame to) ∷ []) in
+      let few = operands_small texts 0 os in
+      omega (arith, all, few)
 
   action_small : (r : ℕ) (texts : List (List ℕ)) (a : Action) → code_weight (action_code core frame texts a) ≤ action_size (view_action core r a)
   action_small r texts (Constant to n) = constant_small (register_of frame.bank to) n
@@ -238,10 +247,7 @@ module _ (core : Core) (frame : Frame) where
   action_small r texts (BeginWith v) = begun_small texts v
   action_small r texts (Pick to text index) = omega arith
   action_small r texts (Compute c) = computation_small frame.bank c
-  action_small r texts (Write (Number from width)) = omega arith
-  action_small r texts (Write (Truth from width)) = omega arith
-  action_small r texts (Write (Char from width)) = omega arith
-  action_small r texts (WriteText text width) = omega arith
+  action_small r texts (Do p os to) = primitive_small texts p os to
 
   -- ---- calls
 

@@ -15,13 +15,13 @@ use Rattle.op_core.specs.declared.types.CoreType.TheVariants.{Array, Boolean, Ch
 use Rattle.op_core.specs.declared.types.CoreType.{CoreType}
 use Rattle.op_core.specs.declared.types.IntegerKind.TheVariants.{Signed32}
 use Rattle.op_frames.specs.Counted.{IsCounted, IsCountedAmount, IsCountedStatement, AreCountedStatements, counted_asks}
-use Rattle.op_meaning.specs.Actions.{load, store, copy, arithmetic, single as lone, combine, write_text}
+use Rattle.op_meaning.specs.Actions.{load, store, copy, arithmetic, single as lone, combine}
 use Rattle.op_meaning.specs.Every.{EveryWork, branches_works, built_in_works, item_works, items_works}
 use Rattle.op_meaning.specs.Expressions.{Here, past, past_whole, Env, Now, ready, at_path, a_text, Found, found, whole_path, path_of, own, then_acts, element_step, converted, find, make}
 use Rattle.op_meaning.specs.Items.{act, choose, select, leave, halt, Items, none, ◌&◌, only, acts}
 use Rattle.op_meaning.specs.Paths.{with_step}
 use Rattle.op_meaning.specs.Shapes.{Shape, single, composite, of_chars, of_elements, of_instance, shape_of, type_of_variable}
-use Rattle.op_meaning.specs.Statements.{stored_by, result_path, at_variable, kind_of, write_by, write_by_now, no_width, write_one, write_all, line_end, sum_or_difference, counted_at, changed_set, done_built_in, store_variable, for_items, in_array, in_set, in_collection, in_turn, work_of, work_of_all, cases_of}
+use Rattle.op_meaning.specs.Statements.{stored_by, result_path, at_variable, kind_of, write_by, write_by_now, no_width, write_one, write_all, line_end, sum_or_difference, counted_at, changed_set, done_built_in, store_variable, for_items, in_array, in_set, in_collection, in_turn, work_of, work_of_all, cases_of, write_text}
 use Rattle.op_meaning.specs.Texts.{line_feed}
 use Rattle.op_sizes.proofs.ExpressionTexts.{both_text, three_text, acts_text, found_text, now_text, own_keeps, then_text, converted_keeps, find_keeps, make_keeps}
 use Rattle.op_sizes.proofs.TextsKept.{action_text, cases_text, items_text, total, total_join, total_three}

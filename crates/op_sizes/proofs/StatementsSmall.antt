@@ -19,14 +19,14 @@ use Rattle.op_core.specs.declared.types.IntegerKind.TheVariants.{Signed32}
 use Rattle.op_frames.proofs.ExpressionsWithin.{valued_node}
 use Rattle.op_frames.proofs.StatementsWithin.{counter_one}
 use Rattle.op_frames.specs.Counted.{IsCounted, IsCountedAmount, IsCountedStatement, AreCountedStatements, AreCountedLabels, counted_asks}
-use Rattle.op_meaning.specs.Actions.{load, store, copy, begin_with, arithmetic, single as lone, combine, write_text}
+use Rattle.op_meaning.specs.Actions.{load, store, copy, begin_with, arithmetic, single as lone, combine}
 use Rattle.op_meaning.specs.Charge.{nodes_of, expression_weight, item_weight, items_weight, built_in_weight, labels_weight, statement_weight, statements_weight, branches_weight}
 use Rattle.op_meaning.specs.Every.{EveryWork, branches_works, built_in_works, item_works, items_works}
 use Rattle.op_meaning.specs.Expressions.{Here, past, past_whole, Env, Now, ready, at_path, a_text, Found, found, whole_path, path_of, own, then_acts, element_step, converted, find, make}
 use Rattle.op_meaning.specs.Items.{act, choose, select, leave, halt, Items, none, ◌&◌, only, acts}
 use Rattle.op_meaning.specs.Paths.{with_step}
 use Rattle.op_meaning.specs.Shapes.{Shape, single, composite, of_chars, of_elements, of_instance, shape_of, type_of_local, type_of_variable, variables_of}
-use Rattle.op_meaning.specs.Statements.{stored_by, result_path, at_variable, kind_of, write_by, write_by_now, no_width, write_one, write_all, line_end, sum_or_difference, counted_at, changed_set, done_built_in, store_variable, for_items, in_array, in_set, in_collection, in_turn, work_of, work_of_all, cases_of, first_items}
+use Rattle.op_meaning.specs.Statements.{stored_by, result_path, at_variable, kind_of, write_by, write_by_now, no_width, write_one, write_all, line_end, sum_or_difference, counted_at, changed_set, done_built_in, store_variable, for_items, in_array, in_set, in_collection, in_turn, work_of, work_of_all, cases_of, first_items, write_text}
 use Rattle.op_sizes.proofs.ExpressionsSmall.{both_size, three_size, acts_size, path_small, own_small, then_size, converted_small, find_small, make_small}
 use Rattle.op_sizes.specs.Sizes.{action_size, items_size, cases_size}
 use Rattle.op_sizes.specs.Written.{IsWritten, AreWrittenLabels, IsWrittenStatement, AreWrittenStatements, written_asks}

@@ -1,21 +1,24 @@
 -- The literals of code are those of the items that it is made of: each is there once. What is said of what they count for is so whatever each counts
 -- for, so it is also said of one of them alone.
-use Rattle.std.proofs.Common.{◌≡◌, ◌≤◌, ℕ, zero, suc, ◌+◌, Bool, true, false, List, [], ◌∷◌, ◌++◌, length, length-append, refl, ap, arith, if◌then◌else◌}
+use Rattle.std.proofs.Common.{◌≡◌, ◌≤◌, ℕ, zero, suc, ◌+◌, Bool, true, false, List, [], ◌∷◌, ◌++◌, length, map, length-append, refl, ap, arith, if◌then◌else◌}
 use Rattle.std.proofs.lemmas.List.Concat.{flat_map-cons}
 use Rattle.std.specs.List.{flat_map}
 use Rattle.op_constants.specs.FirstBytes.{are_zeros, first_bytes}
-use Rattle.op_constants.specs.Literals.{action_literals, block_literals, instruction_literals, routine_literals}
+use Rattle.op_constants.specs.Literals.{action_literals, block_literals, instruction_literals, operands_literals, routine_literals}
 use Rattle.op_core.specs.Initial.{FirstValue}
 use Rattle.op_core.specs.declared.ids.TypeId.{TypeId}
 use Rattle.op_core.specs.declared.program.Core.{Core}
 use Rattle.op_lower.specs.Seen.{seen, seen_blocks}
-use Rattle.op_meaning.specs.Actions.{Action, begin_with, pick, write_text}
+use Rattle.op_meaning.specs.Actions.{Action, begin_with, pick, primitive}
 use Rattle.op_meaning.specs.Items.{Item, act, also, choose, select, loop, body_first, protect, leave, enter, finish, attempt, throw, rethrow, halt, construct, free, Items, none, then_do, Turns, turns, Cases, no_cases, cases}
+use Rattle.op_meaning.specs.Primitives.{Operand, from_temp, literal_text}
 use Rattle.op_meaning.specs.Shapes.{Shape, composite, of_chars, of_elements, of_instance, shape_of, single, type_of_local}
 use Rattle.op_mir.specs.Code.{Instr, do_act, do_call, jump, when, unless, switch, dispatch, make_due, stop, ret, branch_if, branch_unless, Exits, is_jump, continued, loop_exits, finally_exits, routine_exits, code, code_item, code_loop, code_cases, blocks_of}
-use Rattle.op_mir.specs.View.{first_at, view_action, view_instruction}
-use Rattle.op_mir.specs.declared.action.Action.TheVariants.{BeginWith, Compute, Constant, Copy, Load, Look, Pick, Store, Write, WriteText}
+use Rattle.op_mir.specs.View.{first_at, view_action, view_instruction, view_operand}
+use Rattle.op_mir.specs.declared.action.Action.TheVariants.{BeginWith, Compute, Constant, Copy, Load, Look, Pick, Store, Do}
 use Rattle.op_mir.specs.declared.action.Action.{Action as OwnAction}
+use Rattle.op_mir.specs.declared.action.Operand.{Operand as OwnOperand}
+use Rattle.op_mir.specs.declared.action.Operand.TheVariants.{Number, Literal}
 use Rattle.op_mir.specs.declared.code.Block.{Block}
 use Rattle.op_mir.specs.declared.code.Routine.{Routine}
 use Rattle.op_mir.specs.declared.instruction.Instruction.TheVariants.{Act, Call, Dispatch, Jump, MakeDue, Return, Stop, Switch, Unless, When}
@@ -40,8 +43,13 @@ first_text core of value = if are_zeros (first_bytes core of value) then [] else
 module _ (w : List ℕ → ℕ) (core : Core) where
   -- ---- the literals of actions, of code and of items
 
+  abbrev pub operands_text : List Operand → ℕ
+  operands_text [] = 0
+  operands_text (from_temp t ∷ os) = operands_text os
+  operands_text (literal_text text ∷ os) = w text + operands_text os
+
   abbrev pub action_text : Action → ℕ
-  action_text (write_text bytes width) = w bytes
+  action_text (primitive p operands to) = operands_text operands
   action_text (pick to bytes index) = w bytes
   action_text (begin_with v of value) = total w (first_text core of value)
   action_text _ = 0
@@ -237,8 +245,13 @@ module _ (w : List ℕ → ℕ) (core : Core) where
       by of_elements e = rw e (omega arith)
       by (of_instance holds) e = rw e (omega arith)
 
+  operands_kept : (os : List OwnOperand) → total w (operands_literals os) ≤ operands_text w core (map view_operand os)
+  operands_kept [] = omega arith
+  operands_kept (Number t ∷ os) = let rest = operands_kept os in omega (arith, rest)
+  operands_kept (Literal text ∷ os) = let rest = operands_kept os in omega (arith, rest)
+
   action_kept : (r : ℕ) (a : OwnAction) → total w (action_literals core r a) ≤ action_text w core (view_action core r a)
-  action_kept r (WriteText text width) = omega arith
+  action_kept r (Do p os to) = operands_kept os
   action_kept r (Pick to text index) = omega arith
   action_kept r (BeginWith v) = first_literal r v.0
   action_kept r (Constant to n) = omega arith
@@ -247,7 +260,6 @@ module _ (w : List ℕ → ℕ) (core : Core) where
   action_kept r (Copy of to from) = omega arith
   action_kept r (Look at) = omega arith
   action_kept r (Compute computation) = omega arith
-  action_kept r (Write writing) = omega arith
 
   instruction_kept : (r : ℕ) (i : Instruction) → total w (instruction_literals core r i) ≤ instruction_text w core (view_instruction core r i)
   instruction_kept r (Act action landing) = action_kept r action

@@ -1,8 +1,9 @@
 -- How much low code managed code and items come to at most.
 use Rattle.std.specs.Prelude.{ℕ, ◌+◌, ◌*◌, List, [], ◌∷◌, length}
-use Rattle.op_meaning.specs.Actions.{Action, constant, load, store, copy, look, begin_with, pick, arithmetic, compare, negate, complement, invert, absolute, odd, upper, low_bits, check, neighbour, single, span, combine, contains, check_set, write_number, write_truth, write_char, write_text}
+use Rattle.op_meaning.specs.Actions.{Action, constant, load, store, copy, look, begin_with, pick, arithmetic, compare, negate, complement, invert, absolute, odd, upper, low_bits, check, neighbour, single, span, combine, contains, check_set, primitive}
 use Rattle.op_meaning.specs.Items.{Given, by_value, by_reference, by_place, by_copy, Receiver, nowhere, to_temp, to_place, Item, act, also, choose, select, loop, body_first, protect, leave, enter, finish, attempt, throw, rethrow, halt, construct, free, Items, none, then_do, Turns, turns, Cases, no_cases, cases}
 use Rattle.op_meaning.specs.Paths.{Path}
+use Rattle.op_meaning.specs.Primitives.{Operand, from_temp, literal_text}
 use Rattle.op_mir.specs.Code.{Arm, Instr, do_act, do_call, jump, when, unless, switch, dispatch, make_due, stop, ret}
 
 -- ---- instructions of managed code
@@ -10,6 +11,15 @@ use Rattle.op_mir.specs.Code.{Arm, Instr, do_act, do_call, jump, when, unless, s
 -- one has the address of the root, two make a distance that is too large smaller, and an index is tested and scaled by seven
 abbrev pub path_size : Path → ℕ
 path_size p = 3 + 7 * length p.steps
+
+-- what an operand passes counts with the call once more
+abbrev pub operand_size : Operand → ℕ
+operand_size (from_temp t) = 1
+operand_size (literal_text text) = 4
+
+abbrev pub operands_size : List Operand → ℕ
+operands_size [] = 0
+operands_size (o ∷ os) = operand_size o + operands_size os
 
 -- up to eight words are loaded and stored one by one
 abbrev pub action_size : Action → ℕ
@@ -36,10 +46,7 @@ action_size (span to a b) = 13
 action_size (combine o to a b) = 3
 action_size (contains to a b) = 3
 action_size (check_set all to a) = 5
-action_size (write_number from width) = 6
-action_size (write_truth from width) = 6
-action_size (write_char from width) = 6
-action_size (write_text text width) = 6
+action_size (primitive p operands to) = 1 + operands_size operands
 
 -- an argument counts with the call once more
 abbrev pub given_size : Given → ℕ

@@ -16,11 +16,11 @@ use Rattle.op_core.specs.declared.routine.Routine.{Routine}
 use Rattle.op_core.specs.declared.types.CoreType.{CoreType}
 use Rattle.op_core.specs.declared.types.CoreType.TheVariants.{Integer, Boolean, Char, Enumeration, Subrange, Set}
 use Rattle.op_core.specs.declared.types.IntegerKind.TheVariants.{Signed32}
-use Rattle.op_meaning.specs.Actions.{arithmetic, combine, load, single as lone, store, write_text}
+use Rattle.op_meaning.specs.Actions.{arithmetic, combine, load, single as lone, store}
 use Rattle.op_meaning.specs.Every.{EveryWork, built_in_works, item_works, items_works}
 use Rattle.op_meaning.specs.Expressions.{Here, Found, Now, ready, at_path, a_text, converted, find, make, own, past, past_whole, path_of}
 use Rattle.op_meaning.specs.Items.{Items, ◌&◌, only, acts, act, free}
-use Rattle.op_meaning.specs.Statements.{changed_set, counted_at, done_built_in, kind_of, line_end, no_width, sum_or_difference, write_all, write_by, write_by_now, write_one}
+use Rattle.op_meaning.specs.Statements.{changed_set, counted_at, done_built_in, kind_of, line_end, no_width, sum_or_difference, write_all, write_by, write_by_now, write_one, write_text}
 use Rattle.op_meaning.specs.Texts.{line_feed}
 use Rattle.op_tree.specs.declared.operator.Operator.{Operator}
 use Rattle.op_tree.specs.declared.operator.Operator.TheVariants.{Add, Subtract}
@@ -52,9 +52,9 @@ line_feed_short : IsShortText line_feed
 line_feed_short = (omega arith, All-cons (λ b. b < 256) 10 [] (omega arith) (All-nil (λ b. b < 256)))
 
 write_by_typed : (core : Core) (r : ℕ) (o : Option CoreType) (t : ℕ) → IsTypedAction core r (write_by o t)
-write_by_typed core r (Some Boolean) t = tt
-write_by_typed core r (Some Char) t = tt
-write_by_typed core r _ t = tt
+write_by_typed core r (Some Boolean) t = record { sorts = refl; each = (tt, (tt, tt)); taken = tt }
+write_by_typed core r (Some Char) t = record { sorts = refl; each = (tt, (tt, tt)); taken = tt }
+write_by_typed core r _ t = record { sorts = refl; each = (tt, (tt, tt)); taken = tt }
 
 module _ (core : Core) (sound : IsSound core) (simple : IsSimpleProgram core) (r : ℕ) (x : Routine) (is_there : slice_get core.routines r ≡ Some x) where
   -- ---- Write
@@ -64,7 +64,7 @@ module _ (core : Core) (sound : IsSound core) (simple : IsSimpleProgram core) (r
       let w = write_by (host core (type_at core of)) here.temp in
       both core r f.items (width & only (act w)) h (both core r width (only (act w)) k (write_by_typed core r (host core (type_at core of)) here.temp, tt))
   written_typed here of f width (at_path p) h k own = absurd own
-  written_typed here of f width (a_text bytes) h k own = both core r f.items (width & only (act (write_text bytes (here.temp + 1)))) h (both core r width (only (act (write_text bytes (here.temp + 1)))) k (own, tt))
+  written_typed here of f width (a_text bytes) h k own = both core r f.items (width & only (act (write_text bytes (here.temp + 1)))) h (both core r width (only (act (write_text bytes (here.temp + 1)))) k (record { sorts = refl; each = (own, (tt, tt)); taken = tt }, tt))
 
   no_width_typed : (here : Here) → AreTyped core r (no_width here)
   no_width_typed here = (omega (arith, ints), tt)
@@ -87,7 +87,7 @@ module _ (core : Core) (sound : IsSound core) (simple : IsSimpleProgram core) (r
 
   end_typed : (here : Here) (ends : Bool) → AreTyped core r (line_end here ends)
   end_typed here false = tt
-  end_typed here true = (omega (arith, ints), (line_feed_short, tt))
+  end_typed here true = (omega (arith, ints), (record { sorts = refl; each = (line_feed_short, (tt, tt)); taken = tt }, tt))
 
   -- ---- Inc, Dec, Include and Exclude
 

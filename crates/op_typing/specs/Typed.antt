@@ -19,10 +19,11 @@ use Rattle.op_core.specs.declared.routine.Routine.{Routine}
 use Rattle.op_core.specs.declared.routine.Variable.{Variable}
 use Rattle.op_core.specs.declared.statement.Label.{Label}
 use Rattle.op_core.specs.declared.types.IntegerKind.{IntegerKind}
-use Rattle.op_meaning.specs.Actions.{Action, constant, load, store, copy, look, begin_with, pick, arithmetic, compare, negate, complement, invert, absolute, odd, upper, low_bits, check, neighbour, single, span, combine, contains, check_set, write_number, write_truth, write_char, write_text}
+use Rattle.op_meaning.specs.Actions.{Action, constant, load, store, copy, look, begin_with, pick, arithmetic, compare, negate, complement, invert, absolute, odd, upper, low_bits, check, neighbour, single, span, combine, contains, check_set, primitive}
 use Rattle.op_meaning.specs.Items.{Given, by_value, by_reference, by_place, by_copy, Receiver, nowhere, to_temp, to_place, Item, act, also, choose, select, loop, body_first, protect, leave, enter, finish, attempt, throw, rethrow, halt, construct, free, Items, none, then_do, Turns, turns, Cases, no_cases, cases}
 use Rattle.op_meaning.specs.Numbers.{fits_word}
 use Rattle.op_meaning.specs.Paths.{Root, in_global, in_local, through, in_temporary, Path, path_to}
+use Rattle.op_meaning.specs.Primitives.{IsApplied, Operand, from_temp, literal_text}
 use Rattle.op_meaning.specs.Shapes.{single, composite, shape_of, is_reference, variables_of}
 use Rattle.op_mir.specs.Code.{Instr, do_act, do_call, jump, when, unless, switch, dispatch, make_due, stop, ret}
 
@@ -81,8 +82,12 @@ pub record PathTo (core : Core) (r : ℕ) (path : Path) (of : TypeId) : Type 0 w
 abbrev pub IsShortText : List ℕ → Type 0
 IsShortText text = (length text < 2 ^ 31) × All (λ b. b < 256) text
 
+abbrev pub IsTypedOperand : Operand → Type 0
+IsTypedOperand (from_temp t) = Unit {0}
+IsTypedOperand (literal_text text) = IsShortText text
+
 -- Single numbers are loaded and stored, values with parts are copied, and what stands in the action itself is a number of 32 bits, a
--- first value that its variable can have, or a short text.
+-- first value that its variable can have, or a short text; a primitive has operands of its sorts, and a destination for what it gives.
 abbrev pub IsTypedAction : Core → ℕ → Action → Type 0
 IsTypedAction core r (constant to n) = FitsSigned w32 n
 IsTypedAction core r (load to kind from) = (of : TypeId) × PathTo core r from of × IsSingle core of kind
@@ -107,10 +112,7 @@ IsTypedAction core r (span to a b) = Unit {0}
 IsTypedAction core r (combine o to a b) = Unit {0}
 IsTypedAction core r (contains to a b) = Unit {0}
 IsTypedAction core r (check_set all to a) = Unit {0}
-IsTypedAction core r (write_number from width) = Unit {0}
-IsTypedAction core r (write_truth from width) = Unit {0}
-IsTypedAction core r (write_char from width) = Unit {0}
-IsTypedAction core r (write_text text width) = IsShortText text
+IsTypedAction core r (primitive p operands to) = IsApplied IsTypedOperand p operands to
 
 -- ---- calls
 

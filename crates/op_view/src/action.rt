@@ -1,11 +1,12 @@
 //! Actions.
-use crate::computation::{computation, writing};
+use crate::computation::computation;
 use crate::names::{integer, temporary, type_named};
 use crate::place::path;
 use crate::writer::{Word, Writer};
 use op_base::NoMemory;
 use op_core::{Core, IntegerKind, TypeId};
-use op_mir::{Action, Path, TemporaryId};
+use op_meaning::Primitive;
+use op_mir::{Action, Destination, Operand, Path, TemporaryId};
 
 pub fn action(out: &mut Writer, core: &Core, of: &Action) -> Result<(), NoMemory> {
     match of {
@@ -27,13 +28,39 @@ pub fn action(out: &mut Writer, core: &Core, of: &Action) -> Result<(), NoMemory
             temporary(*index),
         ]),
         Action::Compute(of) => out.words(&computation(*of)),
-        Action::Write(of) => out.words(&writing(*of)),
-        Action::WriteText { text, width } => out.words(&[
-            Word::Plain("write"),
-            Word::Literal(text.as_slice()),
-            Word::Plain("width"),
-            temporary(*width),
-        ]),
+        Action::Do {
+            primitive: of,
+            operands,
+            to,
+        } => primitive(out, *of, operands.as_slice(), *to),
+    }
+}
+
+fn primitive(
+    out: &mut Writer,
+    of: Primitive,
+    operands: &[Operand],
+    to: Destination,
+) -> Result<(), NoMemory> {
+    out.words(&[Word::Plain(primitive_name(of))])?;
+    for operand in operands {
+        out.words(&[match operand {
+            Operand::Number(from) => temporary(*from),
+            Operand::Literal(text) => Word::Literal(text.as_slice()),
+        }])?;
+    }
+    match to {
+        Destination::Unused => Ok(()),
+        Destination::InTemporary(to) => out.words(&[Word::Plain("to"), temporary(to)]),
+    }
+}
+
+fn primitive_name(of: Primitive) -> &'static str {
+    match of {
+        Primitive::WriteNumber => "write number",
+        Primitive::WriteTruth => "write truth",
+        Primitive::WriteChar => "write char",
+        Primitive::WriteText => "write text",
     }
 }
 

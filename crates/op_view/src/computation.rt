@@ -1,7 +1,7 @@
 //! Computations and writes: what comes out, what is done, and with which operands.
 use crate::names::{checked, integer, operator, temporary};
 use crate::writer::Word;
-use op_mir::{Computation, TemporaryId, Writing};
+use op_mir::{Computation, TemporaryId};
 
 /// What an operation of one operand gives.
 fn of_one(to: TemporaryId, name: &'static str, from: TemporaryId) -> [Word<'static>; 7] {
@@ -146,19 +146,5 @@ fn neighbour(
         bounds[0],
         bounds[1],
         bounds[2],
-    ]
-}
-
-pub fn writing(of: Writing) -> [Word<'static>; 4] {
-    let (name, from, width) = match of {
-        Writing::Number { from, width } => ("write number", from, width),
-        Writing::Truth { from, width } => ("write truth", from, width),
-        Writing::Char { from, width } => ("write char", from, width),
-    };
-    [
-        Word::Plain(name),
-        temporary(from),
-        Word::Plain("width"),
-        temporary(width),
     ]
 }

@@ -14,12 +14,12 @@ use Rattle.op_core.specs.declared.types.CoreType.{CoreType}
 use Rattle.op_core.specs.declared.types.CoreType.TheVariants.{Array, Boolean, Char, Set, String}
 use Rattle.op_frames.specs.Made.{AreMadeTurns}
 use Rattle.op_frames.specs.Wholes.{ActionIn, AreWholesIn, IsWholeIn}
-use Rattle.op_meaning.specs.Actions.{check, contains, copy, store, write_text}
+use Rattle.op_meaning.specs.Actions.{check, contains, copy, store}
 use Rattle.op_meaning.specs.Expressions.{Found, Here, Now, a_text, at_path, converted, element_step, found, high_in, low_in, own, past, past_whole, path_of, ready, then_acts, whole_path}
 use Rattle.op_meaning.specs.Items.{Items, act, acts, choose, none, only, then_do, ◌&◌}
 use Rattle.op_meaning.specs.Paths.{with_step}
 use Rattle.op_meaning.specs.Shapes.{Shape, composite, of_chars, of_elements, of_instance, shape_of, single, type_of_row, type_of_variable}
-use Rattle.op_meaning.specs.Statements.{at_variable, counting, for_items, in_array, in_collection, in_set, line_end, store_variable, stored_by, write_by, write_by_now}
+use Rattle.op_meaning.specs.Statements.{at_variable, counting, for_items, in_array, in_collection, in_set, line_end, store_variable, stored_by, write_by, write_by_now, write_text}
 use Rattle.op_mir.specs.Code.{branch_if}
 use Rattle.op_mir.specs.declared.path.Root.{Root}
 use Rattle.op_mir.specs.declared.path.Root.TheVariants.{Temporary}
