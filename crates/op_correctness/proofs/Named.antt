@@ -36,7 +36,7 @@ use Rattle.op_meaning.specs.Items.{Given, by_value, by_reference, by_place, by_c
 use Rattle.op_meaning.specs.Paths.{Path, Root, in_global, in_local, through, in_temporary, Step, field, element}
 use Rattle.op_meaning.specs.Primitives.{EachOperand, Operand, from_temp, literal_text}
 use Rattle.op_meaning.specs.Shapes.{part_type, shape_of}
-use Rattle.op_mir.specs.Code.{Arm, Instr, do_act, do_call, jump, when, unless, switch, dispatch, make_due, stop, ret}
+use Rattle.op_mir.specs.Code.{Arm, Instr, do_act, do_call, jump, when, unless, switch, dispatch, make_due, open_temporaries, end_temporary, stop, ret}
 use Rattle.op_typing.proofs.Rows.{some_and}
 use Rattle.op_typing.proofs.Storing.{result_number}
 use Rattle.op_typing.proofs.Types.{range_words}
@@ -216,6 +216,8 @@ module _ (core : Core) (sound : IsSound core) where
     instruction_named r blocks (switch t arms) typed targeted = arms_named blocks arms typed targeted
     instruction_named r blocks (dispatch t k) typed targeted = targeted
     instruction_named r blocks (make_due f) typed targeted = tt
+    instruction_named r blocks (open_temporaries ts) typed targeted = absurd targeted
+    instruction_named r blocks (end_temporary t) typed targeted = absurd targeted
     instruction_named r blocks (stop t) typed targeted = tt
     instruction_named r blocks ret typed targeted = tt
 

@@ -20,7 +20,7 @@ use Rattle.op_lower.specs.Seen.{seen_blocks}
 use Rattle.op_lower.specs.Temporaries.{in_block, in_given, in_instruction, in_receiver, most_of}
 use Rattle.op_meaning.specs.Items.{nowhere}
 use Rattle.op_mir.specs.Kinds.{is_part}
-use Rattle.op_mir.specs.Code.{Instr, do_act, do_call, jump, when, unless, switch, dispatch, make_due, stop, ret, becoming_due, entering, unit_code}
+use Rattle.op_mir.specs.Code.{Instr, do_act, do_call, jump, when, unless, switch, dispatch, make_due, open_temporaries, end_temporary, stop, ret, becoming_due, entering, unit_code}
 use Rattle.op_mir.specs.View.{view_given, view_instruction, view_receiver}
 use Rattle.op_mir.specs.declared.code.Block.{Block}
 use Rattle.op_mir.specs.declared.instruction.Given.{Given}
@@ -43,6 +43,8 @@ IsBare core (unless t k) = ⊥
 IsBare core (switch t arms) = ⊥
 IsBare core (dispatch t k) = ⊥
 IsBare core (make_due f) = has_closing core ≡ true
+IsBare core (open_temporaries ts) = ⊥
+IsBare core (end_temporary t) = ⊥
 IsBare core (stop t) = ⊥
 
 -- ---- what it is made of
@@ -88,6 +90,8 @@ bare_targeted core r n own (when t k ∷ is) (here, bare) = absurd here
 bare_targeted core r n own (unless t k ∷ is) (here, bare) = absurd here
 bare_targeted core r n own (switch t arms ∷ is) (here, bare) = absurd here
 bare_targeted core r n own (dispatch t k ∷ is) (here, bare) = absurd here
+bare_targeted core r n own (open_temporaries ts ∷ is) (here, bare) = absurd here
+bare_targeted core r n own (end_temporary t ∷ is) (here, bare) = absurd here
 bare_targeted core r n own (stop t ∷ is) (here, bare) = absurd here
 
 -- code in front of a return leaves
@@ -123,6 +127,8 @@ IsDue core (when t k) = Unit {0}
 IsDue core (unless t k) = Unit {0}
 IsDue core (switch t arms) = Unit {0}
 IsDue core (dispatch t k) = Unit {0}
+IsDue core (open_temporaries ts) = Unit {0}
+IsDue core (end_temporary t) = Unit {0}
 IsDue core (stop t) = Unit {0}
 IsDue core ret = Unit {0}
 
@@ -172,6 +178,8 @@ module _ (core : Core) where
   none_due r n low (unless t k ∷ is) (here, targeted) = (tt, none_due r n low is targeted)
   none_due r n low (switch t arms ∷ is) (here, targeted) = (tt, none_due r n low is targeted)
   none_due r n low (dispatch t k ∷ is) (here, targeted) = (tt, none_due r n low is targeted)
+  none_due r n low (open_temporaries ts ∷ is) (here, targeted) = absurd here
+  none_due r n low (end_temporary t ∷ is) (here, targeted) = absurd here
   none_due r n low (stop t ∷ is) (here, targeted) = (tt, none_due r n low is targeted)
   none_due r n low (ret ∷ is) (here, targeted) = (tt, none_due r n low is targeted)
 

@@ -14,7 +14,7 @@ use Rattle.op_frames.specs.Made.{AreMade, AreMadeCases, AreMadeTurns, IsMade}
 use Rattle.op_frames.specs.Within.{IsWithin}
 use Rattle.op_meaning.specs.Calls.{ending_of}
 use Rattle.op_meaning.specs.Frames.{program_of}
-use Rattle.op_meaning.specs.Items.{Item, act, also, choose, select, loop, body_first, protect, leave, enter, finish, attempt, throw, rethrow, halt, construct, free, Items, none, then_do, Turns, turns, Cases, no_cases, cases}
+use Rattle.op_meaning.specs.Items.{Item, act, also, choose, select, loop, body_first, protect, leave, enter, scoped, attempt, throw, rethrow, halt, construct, free, Items, none, then_do, Turns, turns, Cases, no_cases, cases}
 use Rattle.op_meaning.specs.Start.{first_pending}
 use Rattle.op_mir.specs.Code.{Instr, items_of}
 use Rattle.op_mir.specs.Plain.{ArePlain, ArePlainCases, ArePlainTurns, ArePlainUnits, IfExists, IsPlain, IsPlainItem, IsWay}
@@ -48,12 +48,12 @@ module _ (core : Core) (stack r : ℕ) (Q : Instr → Type 0) (blocks : ℕ) whe
     item_plain (select t cs otherwise) (ones, other) (branch, mine, yours) = (cases_plain cs ones mine, items_plain otherwise other yours)
     item_plain (loop l) typed made = turns_plain l typed made
     item_plain (body_first l) typed made = turns_plain l typed made
-    item_plain (protect t keep items finalization) (one, other) (reasons, way, mine, yours) = (items_plain items one mine, items_plain finalization other yours)
+    item_plain (protect t items finalization) (one, other) (reasons, way, mine, yours) = (items_plain items one mine, items_plain finalization other yours)
     item_plain (leave what) typed made = few_ways what typed
     item_plain (enter q given receiver) typed made = slice_get_within core.routines q typed.callee typed.there
     item_plain (halt t) typed made = tt
-    item_plain (finish keep) typed made = absurd made
-    item_plain (attempt keep items cs) typed made = absurd made
+    item_plain (scoped t ts items) typed made = absurd made
+    item_plain (attempt items cs) typed made = absurd made
     item_plain (throw t) typed made = absurd made
     item_plain rethrow typed made = absurd made
     item_plain (construct c q given to) typed made = absurd made

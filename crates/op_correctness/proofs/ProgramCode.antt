@@ -26,7 +26,7 @@ use Rattle.op_lower.specs.Temporaries.{in_block, in_given, in_instruction, in_re
 use Rattle.op_meaning.specs.Frames.{program_of}
 use Rattle.op_meaning.specs.Items.{Given as MeantGiven, Receiver as MeantReceiver, nowhere}
 use Rattle.op_meaning.specs.Shapes.{variables_in, variables_of}
-use Rattle.op_mir.specs.Code.{Instr, do_act, do_call, jump, when, unless, switch, dispatch, make_due, stop, ret, becoming_due, blocks_of, entering, items_of, program_blocks, unit_code}
+use Rattle.op_mir.specs.Code.{Instr, do_act, do_call, jump, when, unless, switch, dispatch, make_due, open_temporaries, end_temporary, stop, ret, becoming_due, blocks_of, entering, items_of, program_blocks, unit_code}
 use Rattle.op_mir.specs.View.{view_block, view_given, view_instruction, view_receiver}
 use Rattle.op_mir.specs.declared.code.Block.{Block}
 use Rattle.op_mir.specs.declared.code.Routine.{Routine}
@@ -52,6 +52,8 @@ IsOwn (when t k) = ⊥
 IsOwn (unless t k) = ⊥
 IsOwn (switch t arms) = ⊥
 IsOwn (dispatch t k) = ⊥
+IsOwn (open_temporaries ts) = ⊥
+IsOwn (end_temporary t) = ⊥
 IsOwn (stop t) = ⊥
 
 -- ---- the code as its machine sees it
@@ -96,6 +98,8 @@ module _ (core : Core) (sound : IsSound core) (simple : IsSimpleProgram core) (r
   own_named (unless t k) own typed = absurd own
   own_named (switch t arms) own typed = absurd own
   own_named (dispatch t k) own typed = absurd own
+  own_named (open_temporaries ts) own typed = absurd own
+  own_named (end_temporary t) own typed = absurd own
   own_named (stop t) own typed = absurd own
 
   own_code_named : (code : List Instr) → Every IsOwn code → AreTypedInstrs core r code → Every (IsNamed core blocks) code

@@ -6,7 +6,7 @@ use Rattle.op_frames.specs.Made.{AreMade, AreMadeCases, AreMadeTurns, ArmsOf, Ev
 use Rattle.op_lower.specs.Lowers.{IsRoutine}
 use Rattle.op_lower.specs.Seen.{seen_blocks}
 use Rattle.op_meaning.specs.Frames.{program_of}
-use Rattle.op_meaning.specs.Items.{Item, act, also, choose, select, loop, body_first, protect, leave, enter, finish, attempt, throw, rethrow, halt, construct, free, Items, none, then_do, Turns, turns, Cases, no_cases, cases}
+use Rattle.op_meaning.specs.Items.{Item, act, also, choose, select, loop, body_first, protect, leave, enter, scoped, attempt, throw, rethrow, halt, construct, free, Items, none, then_do, Turns, turns, Cases, no_cases, cases}
 use Rattle.op_mir.specs.Code.{Arm, Instr, branch_if, branch_unless, items_of}
 use Rattle.op_mir.specs.declared.code.Routine.{Routine}
 use Rattle.op_correctness.specs.Targets.{IsTargetNumber, IsTargeted}
@@ -39,12 +39,12 @@ module _ (Q : Instr → Type 0) (core : Core) (r n : ℕ) where
     item_targeted (select t cs otherwise) (branch, ones, other) = (λ arms are. arms_targeted n cs arms are, cases_targeted cs ones, targeted otherwise other)
     item_targeted (loop l) made = turns_targeted l made
     item_targeted (body_first l) made = turns_targeted l made
-    item_targeted (protect t keep items finalization) (reasons, way, made, last) = (λ m few. refl, λ k less. less, targeted items made, targeted finalization last)
+    item_targeted (protect t items finalization) (reasons, way, made, last) = (λ m few. refl, λ k less. less, targeted items made, targeted finalization last)
     item_targeted (leave what) made = made
     item_targeted (enter r given receiver) made = refl
     item_targeted (halt t) made = tt
-    item_targeted (finish keep) made = absurd made
-    item_targeted (attempt keep items cs) made = absurd made
+    item_targeted (scoped t ts items) made = absurd made
+    item_targeted (attempt items cs) made = absurd made
     item_targeted (throw t) made = absurd made
     item_targeted rethrow made = absurd made
     item_targeted (construct c r given to) made = absurd made

@@ -3,7 +3,7 @@ use Rattle.std.specs.Prelude.{◌≡◌, ◌<◌, ℕ, ◌+◌, length, None, tr
 use Rattle.op_core.specs.declared.program.Core.{Core}
 use Rattle.op_expand.specs.Calls.{has_closing}
 use Rattle.op_frames.specs.Made.{Every}
-use Rattle.op_mir.specs.Code.{Arm, Instr, do_act, do_call, jump, when, unless, switch, dispatch, make_due, stop, ret}
+use Rattle.op_mir.specs.Code.{Arm, Instr, do_act, do_call, jump, when, unless, switch, dispatch, make_due, open_temporaries, end_temporary, stop, ret}
 
 abbrev pub IsTargetNumber : (blocks k : ℕ) → Type 0
 IsTargetNumber blocks k = (0 < k) × (k < blocks)
@@ -18,5 +18,7 @@ IsTargeted core r blocks (unless t k) = IsTargetNumber blocks k
 IsTargeted core r blocks (switch t arms) = Every (λ (a : Arm). IsTargetNumber blocks a.block) arms
 IsTargeted core r blocks (dispatch t k) = k + 3 < blocks
 IsTargeted core r blocks (make_due f) = (r ≡ length core.routines) × (has_closing core ≡ true)
+IsTargeted core r blocks (open_temporaries ts) = ⊥
+IsTargeted core r blocks (end_temporary t) = ⊥
 IsTargeted core r blocks (stop t) = Unit {0}
 IsTargeted core r blocks ret = Unit {0}

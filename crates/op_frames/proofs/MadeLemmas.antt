@@ -1,7 +1,7 @@
 -- What is made of items is what each item makes.
 use Rattle.std.proofs.Common.{◌≡◌, ◌<◌, ◌≤◌, ℕ, zero, suc, ◌+◌, pos, Bool, true, false, List, [], ◌∷◌, ◌++◌, length, None, refl, arith, length-append, if◌then◌else◌}
 use Rattle.op_meaning.specs.Actions.{constant}
-use Rattle.op_meaning.specs.Items.{Item, act, also, choose, select, loop, body_first, protect, leave, enter, finish, attempt, throw, rethrow, halt, construct, free, Items, none, then_do, Turns, turns, Cases, no_cases, cases}
+use Rattle.op_meaning.specs.Items.{Item, act, also, choose, select, loop, body_first, protect, leave, enter, scoped, attempt, throw, rethrow, halt, construct, free, Items, none, then_do, Turns, turns, Cases, no_cases, cases}
 use Rattle.op_mir.specs.Code.{Instr, do_act, jump, dispatch, ret, branch_if, Exits, is_jump, continued, loop_exits, finally_exits, routine_exits, code, code_item, code_loop, code_cases, blocks_of}
 use Rattle.op_frames.specs.Made.{Every, IsCode, ArmsOf, AreMade, IsMade, AreMadeTurns, AreMadeCases}
 
@@ -97,7 +97,7 @@ module _ (Q : Instr → Type 0) (n : ℕ) (jumps : (k : ℕ) → 0 < k → k < n
         record { now_is = alone Q (suc k) (jumps (suc k) (omega arith) ((let e = inside_well n out t k behind less in omega arith))); blocks_are = loop_well out t k behind (omega arith) m l b less }
     item_well out (body_first t) k behind some m l b less =
         record { now_is = alone Q (suc (suc k)) (jumps (suc (suc k)) (omega arith) (inside_well n out t k behind less)); blocks_are = loop_well out t k behind (omega arith) m l b less }
-    item_well out (protect t keep items finalization) k behind some m l b less =
+    item_well out (protect t items finalization) k behind some m l b less =
         let f = code out finalization (k + 4) (dispatch t k ∷ behind) in
         let a = code (finally_exits t k) items (k + 4 + length f.blocks) (jump k ∷ []) in
         let all : length (f.blocks ++ a.blocks) ≡ length f.blocks + length a.blocks = length-append f.blocks a.blocks in
@@ -108,8 +108,8 @@ module _ (Q : Instr → Type 0) (n : ℕ) (jumps : (k : ℕ) → 0 < k → k < n
     item_well out (leave what) k behind some m l b less = record { now_is = l (suc what) (omega (arith, m)); blocks_are = tt }
     item_well out (enter r given receiver) k behind some m l b less = record { now_is = in_front Q _ behind m b; blocks_are = tt }
     item_well out (halt t) k behind some m l b less = record { now_is = in_front Q _ behind m b; blocks_are = tt }
-    item_well out (finish keep) k behind some m l b less = absurd m
-    item_well out (attempt keep items cs) k behind some m l b less = absurd m
+    item_well out (scoped t ts items) k behind some m l b less = absurd m
+    item_well out (attempt items cs) k behind some m l b less = absurd m
     item_well out (throw t) k behind some m l b less = absurd m
     item_well out rethrow k behind some m l b less = absurd m
     item_well out (construct c r given to) k behind some m l b less = absurd m

@@ -2,8 +2,8 @@
 use Rattle.std.specs.Prelude.{◌≡◌, ◌<◌, ℕ, suc, ◌+◌, pos, Bool, List, [], ◌∷◌, None}
 use Rattle.op_core.specs.declared.statement.Label.{Label}
 use Rattle.op_meaning.specs.Actions.{constant}
-use Rattle.op_meaning.specs.Items.{Item, act, also, choose, select, loop, body_first, protect, leave, enter, finish, attempt, throw, rethrow, halt, construct, free, Items, none, then_do, Turns, turns, Cases, no_cases, cases}
-use Rattle.op_mir.specs.Code.{Arm, Instr, do_act, do_call, jump, when, unless, switch, dispatch, make_due, stop, ret, branch_if, branch_unless}
+use Rattle.op_meaning.specs.Items.{Item, act, also, choose, select, loop, body_first, protect, leave, enter, scoped, attempt, throw, rethrow, halt, construct, free, Items, none, then_do, Turns, turns, Cases, no_cases, cases}
+use Rattle.op_mir.specs.Code.{Arm, Instr, do_act, do_call, jump, when, unless, switch, dispatch, make_due, open_temporaries, end_temporary, stop, ret, branch_if, branch_unless}
 
 -- this holds of each element
 abbrev pub Every : {A : Type 0} → (A → Type 0) → List A → Type 0
@@ -22,6 +22,8 @@ IsLast (unless t k) = ⊥
 IsLast (switch t arms) = ⊥
 IsLast (dispatch t k) = ⊥
 IsLast (make_due f) = ⊥
+IsLast (open_temporaries ts) = ⊥
+IsLast (end_temporary t) = ⊥
 
 abbrev pub Leaves : List Instr → Type 0
 Leaves [] = ⊥
@@ -53,12 +55,12 @@ abbrev mutual
   IsMade Q blocks (select t cs otherwise) = ((arms : List Arm) → ArmsOf blocks cs arms → Q (switch t arms)) × AreMadeCases Q blocks cs × AreMade Q blocks otherwise
   IsMade Q blocks (loop l) = AreMadeTurns Q blocks l
   IsMade Q blocks (body_first l) = AreMadeTurns Q blocks l
-  IsMade Q blocks (protect t keep items finalization) = ((n : ℕ) → n < 4 → Q (do_act (constant t (pos n)) None)) × ((k : ℕ) → k + 3 < blocks → Q (dispatch t k)) × AreMade Q blocks items × AreMade Q blocks finalization
+  IsMade Q blocks (protect t items finalization) = ((n : ℕ) → n < 4 → Q (do_act (constant t (pos n)) None)) × ((k : ℕ) → k + 3 < blocks → Q (dispatch t k)) × AreMade Q blocks items × AreMade Q blocks finalization
   IsMade Q blocks (leave what) = what < 3
   IsMade Q blocks (enter r given receiver) = Q (do_call r given receiver None)
   IsMade Q blocks (halt t) = Q (stop t)
-  IsMade Q blocks (finish keep) = ⊥
-  IsMade Q blocks (attempt keep items cs) = ⊥
+  IsMade Q blocks (scoped t ts items) = ⊥
+  IsMade Q blocks (attempt items cs) = ⊥
   IsMade Q blocks (throw t) = ⊥
   IsMade Q blocks rethrow = ⊥
   IsMade Q blocks (construct c r given to) = ⊥

@@ -13,7 +13,7 @@ use Rattle.op_meaning.specs.Items.{Given, by_value, by_reference, by_place, by_c
 use Rattle.op_meaning.specs.Primitives.{IsApplied, Operand, from_temp, literal_text}
 use Rattle.op_meaning.specs.Shapes.{shape_of}
 use Rattle.op_meaning.specs.Paths.{Path, Root, in_global, in_local, through, in_temporary, Step, field, element}
-use Rattle.op_mir.specs.Code.{Arm, Instr, do_act, do_call, jump, when, unless, switch, dispatch, make_due, stop, ret}
+use Rattle.op_mir.specs.Code.{Arm, Instr, do_act, do_call, jump, when, unless, switch, dispatch, make_due, open_temporaries, end_temporary, stop, ret}
 
 -- ---- places
 
@@ -104,5 +104,7 @@ IsNamed core blocks (unless t k) = k < blocks
 IsNamed core blocks (switch t arms) = Every (IsNamedArm blocks) arms
 IsNamed core blocks (dispatch t k) = k + 3 < blocks
 IsNamed core blocks (make_due f) = Unit {0}
+IsNamed core blocks (open_temporaries ts) = ⊥
+IsNamed core blocks (end_temporary t) = ⊥
 IsNamed core blocks (stop t) = Unit {0}
 IsNamed core blocks ret = Unit {0}

@@ -4,7 +4,7 @@ use Rattle.op_meaning.specs.Actions.{Action, constant, load, store, copy, look, 
 use Rattle.op_meaning.specs.Items.{Given, by_value, by_reference, by_place, by_copy, Receiver, nowhere, to_temp, to_place}
 use Rattle.op_meaning.specs.Paths.{Path}
 use Rattle.op_meaning.specs.Primitives.{Operand, from_temp, literal_text}
-use Rattle.op_mir.specs.Code.{Instr, do_act, do_call, jump, when, unless, switch, dispatch, make_due, stop, ret}
+use Rattle.op_mir.specs.Code.{Instr, do_act, do_call, jump, when, unless, switch, dispatch, make_due, open_temporaries, end_temporary, stop, ret}
 
 -- one has the address of the root; an element takes one and another one for its index, and a distance that is too large takes one
 abbrev pub path_room : Path → ℕ
@@ -70,5 +70,7 @@ room_in (unless t k) = 3
 room_in (switch t arms) = 3
 room_in (dispatch t k) = 3
 room_in (make_due f) = 2
+room_in (open_temporaries ts) = 0
+room_in (end_temporary t) = 0
 room_in (stop t) = 0
 room_in ret = 0

@@ -6,7 +6,7 @@ use Rattle.op_frames.specs.Made.{Every}
 use Rattle.op_meaning.specs.Actions.{Action, constant, load, store, copy, look, begin_with, pick, arithmetic, compare, negate, complement, invert, absolute, odd, upper, low_bits, check, neighbour, single, span, combine, contains, check_set, primitive}
 use Rattle.op_meaning.specs.Items.{Given, by_value, by_reference, by_place, by_copy, Receiver, nowhere, to_temp, to_place}
 use Rattle.op_meaning.specs.Paths.{Root, in_global, in_local, through, in_temporary}
-use Rattle.op_mir.specs.Code.{Instr, do_act, do_call, jump, when, unless, switch, dispatch, make_due, stop, ret}
+use Rattle.op_mir.specs.Code.{Instr, do_act, do_call, jump, when, unless, switch, dispatch, make_due, open_temporaries, end_temporary, stop, ret}
 use Rattle.op_mir.specs.declared.path.Root.{Root as ManagedRoot}
 use Rattle.op_mir.specs.declared.path.Root.TheVariants.{Temporary}
 
@@ -62,5 +62,7 @@ AreWholesIn wholes (unless t k) = Unit {0}
 AreWholesIn wholes (switch t arms) = Unit {0}
 AreWholesIn wholes (dispatch t k) = Unit {0}
 AreWholesIn wholes (make_due f) = Unit {0}
+AreWholesIn wholes (open_temporaries ts) = ⊥
+AreWholesIn wholes (end_temporary t) = ⊥
 AreWholesIn wholes (stop t) = Unit {0}
 AreWholesIn wholes ret = Unit {0}

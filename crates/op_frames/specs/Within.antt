@@ -6,7 +6,7 @@ use Rattle.op_meaning.specs.Actions.{Action, constant, load, store, copy, look, 
 use Rattle.op_meaning.specs.Items.{Given, by_value, by_reference, by_place, by_copy, Receiver, nowhere, to_temp, to_place}
 use Rattle.op_meaning.specs.Paths.{Step, field, element}
 use Rattle.op_meaning.specs.Primitives.{Destination, EachOperand, Operand, from_temp, in_temp, literal_text, unused}
-use Rattle.op_mir.specs.Code.{Instr, do_act, do_call, jump, when, unless, switch, dispatch, make_due, stop, ret, Arm}
+use Rattle.op_mir.specs.Code.{Instr, do_act, do_call, jump, when, unless, switch, dispatch, make_due, open_temporaries, end_temporary, stop, ret, Arm}
 
 abbrev pub StepsBelow : ℕ → List Step → Type 0
 StepsBelow top [] = Unit {0}
@@ -79,5 +79,7 @@ IsWithin top room (unless t k) = (t < top) × (3 ≤ room)
 IsWithin top room (switch t arms) = (t < top) × (3 ≤ room) × (labels_among arms ≤ room)
 IsWithin top room (dispatch t k) = (t + 1 < top) × (3 ≤ room)
 IsWithin top room (make_due f) = 2 ≤ room
+IsWithin top room (open_temporaries ts) = ⊥
+IsWithin top room (end_temporary t) = ⊥
 IsWithin top room (stop t) = t < top
 IsWithin top room ret = Unit {0}

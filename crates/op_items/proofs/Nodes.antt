@@ -37,17 +37,17 @@ first_in (Choose' t _ row _ others) = (_, row)
 first_in (Select' t _ cs _ row) = (_, row)
 first_in (Loop' _ row t ends _ between _ body) = (_, row)
 first_in (BodyFirst' _ row t ends _ between _ body) = (_, row)
-first_in (Protect' t keep _ row _ others) = (_, row)
-first_in (Attempt' keep _ row _ cs) = (_, row)
-first_in (AttemptAll' keep _ row _ cs _ others) = (_, row)
+first_in (Protect' t _ row _ others) = (_, row)
+first_in (Attempt' _ row _ cs) = (_, row)
+first_in (AttemptAll' _ row _ cs _ others) = (_, row)
 first_in other = (_, end_of-Item)
 
 abbrev second_in : Item → Rows
 second_in (Choose' t _ row _ others) = (_, others)
 second_in (Loop' _ row t ends _ between _ body) = (_, between)
 second_in (BodyFirst' _ row t ends _ between _ body) = (_, between)
-second_in (Protect' t keep _ row _ others) = (_, others)
-second_in (AttemptAll' keep _ row _ cs _ others) = (_, others)
+second_in (Protect' t _ row _ others) = (_, others)
+second_in (AttemptAll' _ row _ cs _ others) = (_, others)
 second_in other = (_, end_of-Item)
 
 abbrev third_in : Item → Rows
@@ -60,8 +60,8 @@ cases_in (Select' t _ cs _ row) = (_, cs)
 cases_in other = (_, end_of-Case)
 
 abbrev clauses_in : Item → (n : Count) × Row_of-Clause n
-clauses_in (Attempt' keep _ row _ cs) = (_, cs)
-clauses_in (AttemptAll' keep _ row _ cs _ others) = (_, cs)
+clauses_in (Attempt' _ row _ cs) = (_, cs)
+clauses_in (AttemptAll' _ row _ cs _ others) = (_, cs)
 clauses_in other = (_, end_of-Clause)
 
 by_items : (core : Core) (r : ℕ) (row : Rows) (items : Vec Item Global) → items-the_row-Item row.0 row.1 ≡ items.items → item_row core r row.1 ≡ items_view core r items.items
@@ -82,12 +82,12 @@ item_nodes core r = record {
   select_says = λ t cs otherwise. ap₂ (select t.0) (let row = cases_in (Select t cs otherwise) in case_list core r row.0 row.1 ∙ ap (cases_view core r) (items_hidden-the_row-Case-1 cs)) (by_items core r (first_in (Select t cs otherwise)) otherwise (items_hidden-the_row-Item-0 otherwise));
   loop_says = λ l. ap loop (by_turns core r l (first_in (Loop l)) (second_in (Loop l)) (third_in (Loop l)) (items_hidden-the_row-Item-0 l.head) (items_hidden-the_row-Item-0 l.between) (items_hidden-the_row-Item-0 l.body));
   body_first_says = λ l. ap body_first (by_turns core r l (first_in (BodyFirst l)) (second_in (BodyFirst l)) (third_in (BodyFirst l)) (items_hidden-the_row-Item-0 l.head) (items_hidden-the_row-Item-0 l.between) (items_hidden-the_row-Item-0 l.body));
-  protect_says = λ t keep items finalization. ap₂ (protect t.0 keep) (by_items core r (first_in (Protect t keep items finalization)) items (items_hidden-the_row-Item-0 items)) (by_items core r (second_in (Protect t keep items finalization)) finalization (items_hidden-the_row-Item-0 finalization));
-  attempt_says = λ keep items cs. ap₂ (attempt keep) (by_items core r (first_in (Attempt keep items cs)) items (items_hidden-the_row-Item-0 items)) (by_clauses core r (clauses_in (Attempt keep items cs)) cs no_clauses (items_hidden-the_row-Clause-2 cs));
-  attempt_all_says = λ keep items cs others.
-      ap₂ (attempt keep) (by_items core r (first_in (AttemptAll keep items cs others)) items (items_hidden-the_row-Item-0 items))
-      (by_clauses core r (clauses_in (AttemptAll keep items cs others)) cs (for_others (item_row core r (second_in (AttemptAll keep items cs others)).1)) (items_hidden-the_row-Clause-2 cs)
-      ∙ ap (λ x. clauses_view core r cs.items (for_others x)) (by_items core r (second_in (AttemptAll keep items cs others)) others (items_hidden-the_row-Item-0 others)));
+  protect_says = λ t items finalization. ap₂ (protect t.0) (by_items core r (first_in (Protect t items finalization)) items (items_hidden-the_row-Item-0 items)) (by_items core r (second_in (Protect t items finalization)) finalization (items_hidden-the_row-Item-0 finalization));
+  attempt_says = λ items cs. ap₂ attempt (by_items core r (first_in (Attempt items cs)) items (items_hidden-the_row-Item-0 items)) (by_clauses core r (clauses_in (Attempt items cs)) cs no_clauses (items_hidden-the_row-Clause-2 cs));
+  attempt_all_says = λ items cs others.
+      ap₂ attempt (by_items core r (first_in (AttemptAll items cs others)) items (items_hidden-the_row-Item-0 items))
+      (by_clauses core r (clauses_in (AttemptAll items cs others)) cs (for_others (item_row core r (second_in (AttemptAll items cs others)).1)) (items_hidden-the_row-Clause-2 cs)
+      ∙ ap (λ x. clauses_view core r cs.items (for_others x)) (by_items core r (second_in (AttemptAll items cs others)) others (items_hidden-the_row-Item-0 others)));
 }
 
 -- ---- items behind items

@@ -39,26 +39,26 @@ case_work setting old new r here stmt e bs ss otherwise i o a =
     (ap (λ x. (make env here e).items & only (select here.temp (cases_of env here bs) x)) o
     ∙ ap (work_of env here) (sym i)) a
 
-pub finally_work : {A : Type 0} (setting : Setting) (old new : List Item) (r : Result A NoMemory) (here inner : Here) (stmt : Statement) (ss ts : Statements) (body : List Item) → stmt ≡ try_finally ss ts → inner ≡ past 2 here → view_in setting body ≡ work_of_all (env_view setting) inner ss → IfOk r (λ _. Adds setting old new (only (protect here.temp here.keep (view_in setting body) (work_of_all (env_view setting) (past 2 here) ts)))) → IfOk r (λ _. Adds setting old new (work_of (env_view setting) here stmt))
+pub finally_work : {A : Type 0} (setting : Setting) (old new : List Item) (r : Result A NoMemory) (here inner : Here) (stmt : Statement) (ss ts : Statements) (body : List Item) → stmt ≡ try_finally ss ts → inner ≡ past 2 here → view_in setting body ≡ work_of_all (env_view setting) inner ss → IfOk r (λ _. Adds setting old new (only (protect here.temp (view_in setting body) (work_of_all (env_view setting) (past 2 here) ts)))) → IfOk r (λ _. Adds setting old new (work_of (env_view setting) here stmt))
 finally_work setting old new r here inner stmt ss ts body i n b a =
     let env = env_view setting in
     ok_as setting old new r
-    (ap (λ x. only (protect here.temp here.keep x (work_of_all env (past 2 here) ts))) (b ∙ ap (λ h. work_of_all env h ss) n)
+    (ap (λ x. only (protect here.temp x (work_of_all env (past 2 here) ts))) (b ∙ ap (λ h. work_of_all env h ss) n)
     ∙ ap (work_of env here) (sym i)) a
 
-pub on_work : {A : Type 0} (setting : Setting) (old new : List Item) (r : Result A NoMemory) (here : Here) (stmt : Statement) (ss : Statements) (hs : Handlers) (body : List Item) → stmt ≡ try_on ss hs → view_in setting body ≡ work_of_all (env_view setting) here ss → IfOk r (λ _. Adds setting old new (only (attempt here.keep (view_in setting body) (clauses_of (env_view setting) here hs no_clauses)))) → IfOk r (λ _. Adds setting old new (work_of (env_view setting) here stmt))
+pub on_work : {A : Type 0} (setting : Setting) (old new : List Item) (r : Result A NoMemory) (here : Here) (stmt : Statement) (ss : Statements) (hs : Handlers) (body : List Item) → stmt ≡ try_on ss hs → view_in setting body ≡ work_of_all (env_view setting) here ss → IfOk r (λ _. Adds setting old new (only (attempt (view_in setting body) (clauses_of (env_view setting) here hs no_clauses)))) → IfOk r (λ _. Adds setting old new (work_of (env_view setting) here stmt))
 on_work setting old new r here stmt ss hs body i b a =
     let env = env_view setting in
     ok_as setting old new r
-    (ap (λ x. only (attempt here.keep x (clauses_of env here hs no_clauses))) b
+    (ap (λ x. only (attempt x (clauses_of env here hs no_clauses))) b
     ∙ ap (work_of env here) (sym i)) a
 
-pub else_work : {A : Type 0} (setting : Setting) (old new : List Item) (r : Result A NoMemory) (here : Here) (stmt : Statement) (ss : Statements) (hs : Handlers) (ts : Statements) (body others : List Item) → stmt ≡ try_on_else ss hs ts → view_in setting body ≡ work_of_all (env_view setting) here ss → view_in setting others ≡ work_of_all (env_view setting) here ts → IfOk r (λ _. Adds setting old new (only (attempt here.keep (view_in setting body) (clauses_of (env_view setting) here hs (for_others (view_in setting others)))))) → IfOk r (λ _. Adds setting old new (work_of (env_view setting) here stmt))
+pub else_work : {A : Type 0} (setting : Setting) (old new : List Item) (r : Result A NoMemory) (here : Here) (stmt : Statement) (ss : Statements) (hs : Handlers) (ts : Statements) (body others : List Item) → stmt ≡ try_on_else ss hs ts → view_in setting body ≡ work_of_all (env_view setting) here ss → view_in setting others ≡ work_of_all (env_view setting) here ts → IfOk r (λ _. Adds setting old new (only (attempt (view_in setting body) (clauses_of (env_view setting) here hs (for_others (view_in setting others)))))) → IfOk r (λ _. Adds setting old new (work_of (env_view setting) here stmt))
 else_work setting old new r here stmt ss hs ts body others i b o a =
     let env = env_view setting in
     ok_as setting old new r
-    (ap (λ x. only (attempt here.keep x (clauses_of env here hs (for_others (view_in setting others))))) b
-    ∙ ap (λ x. only (attempt here.keep (work_of_all env here ss) (clauses_of env here hs (for_others x)))) o
+    (ap (λ x. only (attempt x (clauses_of env here hs (for_others (view_in setting others))))) b
+    ∙ ap (λ x. only (attempt (work_of_all env here ss) (clauses_of env here hs (for_others x)))) o
     ∙ ap (work_of env here) (sym i)) a
 
 -- ---- loops that count

@@ -32,11 +32,11 @@ abbrev mutual
   item_view core r (Select' t _ row _ otherwise) = select t.0 (case_row core r row) (item_row core r otherwise)
   item_view core r (Loop' _ head t ends _ between _ body) = loop (turns (item_row core r head) t.0 ends (item_row core r between) (item_row core r body))
   item_view core r (BodyFirst' _ head t ends _ between _ body) = body_first (turns (item_row core r head) t.0 ends (item_row core r between) (item_row core r body))
-  item_view core r (Protect' t keep _ row _ finalization) = protect t.0 keep (item_row core r row) (item_row core r finalization)
+  item_view core r (Protect' t _ row _ finalization) = protect t.0 (item_row core r row) (item_row core r finalization)
   item_view core r (Leave way) = leave (way_view way)
   item_view core r (Enter id given receiver) = enter id.0 (map view_given given) (view_receiver receiver)
-  item_view core r (Attempt' keep _ row _ handlers) = attempt keep (item_row core r row) (clause_row core r handlers no_clauses)
-  item_view core r (AttemptAll' keep _ row _ handlers _ others) = attempt keep (item_row core r row) (clause_row core r handlers (for_others (item_row core r others)))
+  item_view core r (Attempt' _ row _ handlers) = attempt (item_row core r row) (clause_row core r handlers no_clauses)
+  item_view core r (AttemptAll' _ row _ handlers _ others) = attempt (item_row core r row) (clause_row core r handlers (for_others (item_row core r others)))
   item_view core r (Throw t) = throw t.0
   item_view core r Rethrow = rethrow
   item_view core r (Halt t) = halt t.0

@@ -114,15 +114,13 @@ impl Setting<'_> {
         self,
         items: &mut Vec<Item>,
         temporary: TemporaryId,
-        keep: u32,
         body: Vec<Item>,
         finalization: Vec<Item>,
     ) -> Result<(), NoMemory>
-        ensures { IfOk result (λ _. Adds self.entry items.old.items items.new.items (only (protect temporary.0 keep (view_in self.entry body.items) (view_in self.entry finalization.items)))) }
+        ensures { IfOk result (λ _. Adds self.entry items.old.items items.new.items (only (protect temporary.0 (view_in self.entry body.items) (view_in self.entry finalization.items)))) }
     {
         let item = Item::Protect {
             temporary,
-            keep,
             items: body,
             finalization,
         };
@@ -134,14 +132,12 @@ impl Setting<'_> {
     pub fn attempt(
         self,
         items: &mut Vec<Item>,
-        keep: u32,
         body: Vec<Item>,
         clauses: Vec<Clause>,
     ) -> Result<(), NoMemory>
-        ensures { IfOk result (λ _. Adds self.entry items.old.items items.new.items (only (attempt keep (view_in self.entry body.items) (clauses_in self.entry clauses.items no_clauses)))) }
+        ensures { IfOk result (λ _. Adds self.entry items.old.items items.new.items (only (attempt (view_in self.entry body.items) (clauses_in self.entry clauses.items no_clauses)))) }
     {
         let item = Item::Attempt {
-            keep,
             items: body,
             clauses,
         };
@@ -153,15 +149,13 @@ impl Setting<'_> {
     pub fn attempt_all(
         self,
         items: &mut Vec<Item>,
-        keep: u32,
         body: Vec<Item>,
         clauses: Vec<Clause>,
         others: Vec<Item>,
     ) -> Result<(), NoMemory>
-        ensures { IfOk result (λ _. Adds self.entry items.old.items items.new.items (only (attempt keep (view_in self.entry body.items) (clauses_in self.entry clauses.items (for_others (view_in self.entry others.items)))))) }
+        ensures { IfOk result (λ _. Adds self.entry items.old.items items.new.items (only (attempt (view_in self.entry body.items) (clauses_in self.entry clauses.items (for_others (view_in self.entry others.items)))))) }
     {
         let item = Item::AttemptAll {
-            keep,
             items: body,
             clauses,
             others,

@@ -11,8 +11,7 @@ pub enum Way {
     Continue,
 }
 
-/// What is done in order, by one construct of the source machine each. Of a construct that has to end temporaries, `keep` says how many
-/// stand round it and stay.
+/// What is done in order, by one construct of the source machine each.
 #[cycle(items)]
 #[derive(Drop)]
 pub enum Item {
@@ -40,7 +39,6 @@ pub enum Item {
     /// A part with a finally part. Why it is left stands in the temporary, and an exception that waits in the next one.
     Protect {
         temporary: TemporaryId,
-        keep: u32,
         items: Vec<Item>,
         finalization: Vec<Item>,
     },
@@ -52,13 +50,11 @@ pub enum Item {
     },
     /// A part with handlers. An exception that no clause takes goes on.
     Attempt {
-        keep: u32,
         items: Vec<Item>,
         clauses: Vec<Clause>,
     },
     /// A part with handlers. An exception that no clause takes is taken by `others`.
     AttemptAll {
-        keep: u32,
         items: Vec<Item>,
         clauses: Vec<Clause>,
         others: Vec<Item>,

@@ -17,12 +17,11 @@ pub struct Setting<'a> {
 }
 
 /// Where values go. Temporaries are numbered by where a value stands in the text: `temporary` is the first free one for a value and
-/// `whole` the first free one for a record or an array. `keep` says how many stand round the statement that have to be ended.
+/// `whole` the first free one for a record or an array.
 #[derive(Clone, Copy)]
 pub struct Here {
     temporary: u32,
     whole: u32,
-    keep: u32,
 }
 
 impl Here {
@@ -33,7 +32,6 @@ impl Here {
         Here {
             temporary: 0,
             whole: 0,
-            keep: 0,
         }
     }
 
@@ -56,12 +54,6 @@ impl Here {
         ensures { result ≡ (here_view self).whole }
     {
         self.whole
-    }
-
-    pub fn keep(self) -> u32
-        ensures { result ≡ (here_view self).keep }
-    {
-        self.keep
     }
 
     /// Behind so many temporaries.

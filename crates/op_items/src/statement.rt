@@ -266,10 +266,10 @@ fn try_finally(
     body: Vec<Item>,
     items: &mut Vec<Item>,
 ) -> Result<(), NoMemory>
-    ensures { IfOk result (λ _. Adds setting.entry items.old.items items.new.items (only (protect (here_view here).temp (here_view here).keep (view_in setting.entry body.items) (work_of_all (env_view setting.entry) (past 2 (here_view here)) (stmts_of finalization.now))))) }
+    ensures { IfOk result (λ _. Adds setting.entry items.old.items items.new.items (only (protect (here_view here).temp (view_in setting.entry body.items) (work_of_all (env_view setting.entry) (past 2 (here_view here)) (stmts_of finalization.now))))) }
 {
     let finalization = list(setting, here.past(2)?, finalization)?;
-    setting.protect(items, here.first(), here.keep(), body, finalization)
+    setting.protect(items, here.first(), body, finalization)
 }
 
 /// Behind a part: its handlers.
@@ -282,10 +282,10 @@ fn try_on(
     body: Vec<Item>,
     items: &mut Vec<Item>,
 ) -> Result<(), NoMemory>
-    ensures { IfOk result (λ _. Adds setting.entry items.old.items items.new.items (only (attempt (here_view here).keep (view_in setting.entry body.items) (clauses_of (env_view setting.entry) (here_view here) (handlers_of handlers.now) no_clauses)))) }
+    ensures { IfOk result (λ _. Adds setting.entry items.old.items items.new.items (only (attempt (view_in setting.entry body.items) (clauses_of (env_view setting.entry) (here_view here) (handlers_of handlers.now) no_clauses)))) }
 {
     let clauses = clauses_of(setting, here, handlers)?;
-    setting.attempt(items, here.keep(), body, clauses)
+    setting.attempt(items, body, clauses)
 }
 
 /// The handlers of a part, where that and what takes all other exceptions are done.
@@ -299,10 +299,10 @@ fn try_on_else(
     others: Vec<Item>,
     items: &mut Vec<Item>,
 ) -> Result<(), NoMemory>
-    ensures { IfOk result (λ _. Adds setting.entry items.old.items items.new.items (only (attempt (here_view here).keep (view_in setting.entry body.items) (clauses_of (env_view setting.entry) (here_view here) (handlers_of handlers.now) (for_others (view_in setting.entry others.items)))))) }
+    ensures { IfOk result (λ _. Adds setting.entry items.old.items items.new.items (only (attempt (view_in setting.entry body.items) (clauses_of (env_view setting.entry) (here_view here) (handlers_of handlers.now) (for_others (view_in setting.entry others.items)))))) }
 {
     let clauses = clauses_of(setting, here, handlers)?;
-    setting.attempt_all(items, here.keep(), body, clauses, others)
+    setting.attempt_all(items, body, clauses, others)
 }
 
 #[cycle(statement)]

@@ -353,16 +353,10 @@ body_first_is exits item l found old new behind now result e p h =
     item_is exits (λ core r. item_view core r item) (λ core r. body_first (turns_view core r found)) old new behind now result
     (λ core r. ap (item_view core r) e ∙ (item_nodes core r).body_first_says l ∙ ap (λ x. body_first (turns_view core r x)) (sym p)) h
 
-at_keep : {R E : Type 0} (P : ℕ → Type 0) (keep : ℕ) (result : Result R E) → IfOk result (λ _. (k : ℕ) → P k) → IfOk result (λ _. P keep)
-at_keep P keep (Ok done) h = h keep
-at_keep P keep (Err error) h = h
-
-pub protect_is : {R E : Type 0} (exits : Exits) (item : Item) (t found_t : TemporaryId) (keep : ℕ) (items found finalization found_finalization : Vec Item Global) (old new : List Block) (behind now : List Instruction) (result : Result R E) → item ≡ Protect t keep items finalization → found_t ≡ t → found ≡ items → found_finalization ≡ finalization → IfOk result (λ _. (k : ℕ) → Makes (item_made exits (λ core r. protect found_t.0 k (items_view core r found.items) (items_view core r found_finalization.items)) old behind) old new now) → MadeFor exits (λ core r. item_view core r item) old new behind now result
-protect_is exits item t found_t keep items found finalization found_finalization old new behind now result e p q s h =
-    let meant : ℕ → Core → ℕ → MeantItem = λ k core r. protect found_t.0 k (items_view core r found.items) (items_view core r found_finalization.items) in
-    item_is exits (λ core r. item_view core r item) (meant keep) old new behind now result
-    (λ core r. ap (item_view core r) e ∙ (item_nodes core r).protect_says t keep items finalization ∙ ap₃ (λ x y z. protect x.0 keep (items_view core r y.items) (items_view core r z.items)) (sym p) (sym q) (sym s))
-    (at_keep (λ k. Makes (item_made exits (meant k) old behind) old new now) keep result h)
+pub protect_is : {R E : Type 0} (exits : Exits) (item : Item) (t found_t : TemporaryId) (items found finalization found_finalization : Vec Item Global) (old new : List Block) (behind now : List Instruction) (result : Result R E) → item ≡ Protect t items finalization → found_t ≡ t → found ≡ items → found_finalization ≡ finalization → IfOk result (λ _. Makes (item_made exits (λ core r. protect found_t.0 (items_view core r found.items) (items_view core r found_finalization.items)) old behind) old new now) → MadeFor exits (λ core r. item_view core r item) old new behind now result
+protect_is exits item t found_t items found finalization found_finalization old new behind now result e p q s h =
+    item_is exits (λ core r. item_view core r item) (λ core r. protect found_t.0 (items_view core r found.items) (items_view core r found_finalization.items)) old new behind now result
+    (λ core r. ap (item_view core r) e ∙ (item_nodes core r).protect_says t items finalization ∙ ap₃ (λ x y z. protect x.0 (items_view core r y.items) (items_view core r z.items)) (sym p) (sym q) (sym s)) h
 
 pub leave_makes : {R E : Type 0} (exits : Exits) (item : Item) (way found : Way) (old : List Block) (behind now : List Instruction) (result : Result R E) → item ≡ Leave way → found ≡ way → IfOk result (λ _. (core : Core) (r : ℕ) → seen core r now ≡ exits_of exits (reason_of found)) → MadeFor exits (λ core r. item_view core r item) old old behind now result
 leave_makes exits item way found old behind now (Ok done) e p h = λ core r.

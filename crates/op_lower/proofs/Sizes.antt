@@ -19,7 +19,7 @@ abbrev mutual
   in_item (select t cs otherwise) = suc (in_cases cs + in_items otherwise)
   in_item (loop l) = suc (in_turns l)
   in_item (body_first l) = suc (in_turns l)
-  in_item (protect t keep items finalization) = suc (in_items items + in_items finalization)
+  in_item (protect t items finalization) = suc (in_items items + in_items finalization)
   in_item _ = 0
 
   in_items : Items → ℕ
@@ -67,9 +67,9 @@ pub body_first_size : (i : Item) (l : Turns) → i ≡ BodyFirst l → item_size
 unfolding item_size turns_size
 body_first_size i l e = ap (λ x. in_item (item_view no_tables 0 x)) e ∙ ap in_item ((item_nodes no_tables 0).body_first_says l)
 
-pub protect_size : (i : Item) (t : TemporaryId) (keep : ℕ) (items finalization : Vec Item Global) → i ≡ Protect t keep items finalization → item_size i ≡ suc (size items.items + size finalization.items)
+pub protect_size : (i : Item) (t : TemporaryId) (items finalization : Vec Item Global) → i ≡ Protect t items finalization → item_size i ≡ suc (size items.items + size finalization.items)
 unfolding item_size size
-protect_size i t keep items finalization e = ap (λ x. in_item (item_view no_tables 0 x)) e ∙ ap in_item ((item_nodes no_tables 0).protect_says t keep items finalization)
+protect_size i t items finalization e = ap (λ x. in_item (item_view no_tables 0 x)) e ∙ ap in_item ((item_nodes no_tables 0).protect_says t items finalization)
 
 pub size_of_turns : (l : Turns) → turns_size l ≡ size l.head.items + size l.between.items + size l.body.items
 unfolding turns_size size

@@ -77,7 +77,6 @@ fn code_item(
         Item::BodyFirst(turns) => from_body(alloc, blocks, exits, turns, now),
         Item::Protect {
             temporary,
-            keep: _,
             items,
             finalization,
         } => protect(alloc, blocks, exits, *temporary, items, finalization, now),
@@ -393,7 +392,7 @@ fn protect(
     finalization: &mut Vec<Item>,
     now: &mut Instructions,
 ) -> Result<(), NoMemory>
-    ensures { IfOk result (λ _. (keep : ℕ) → Makes (item_made exits.now (λ core r. protected temporary.0 keep (items_view core r items.old.items) (items_view core r finalization.old.items)) blocks.old now.old) blocks.old blocks.new now.new) }
+    ensures { IfOk result (λ _. Makes (item_made exits.now (λ core r. protected temporary.0 (items_view core r items.old.items) (items_view core r finalization.old.items)) blocks.old now.old) blocks.old blocks.new now.new) }
 {
     let block = finally_block(alloc, blocks, exits, temporary, finalization, now)?;
     let within = Exits::Finally {

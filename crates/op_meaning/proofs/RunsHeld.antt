@@ -13,7 +13,7 @@ use Rattle.op_meaning.specs.Costs.{cost}
 use Rattle.op_meaning.specs.Demands.{block, standing}
 use Rattle.op_meaning.specs.Frames.{Program, State}
 use Rattle.op_meaning.specs.Holding.{each, any_below, holders}
-use Rattle.op_meaning.specs.Items.{item, Item, free, finish}
+use Rattle.op_meaning.specs.Items.{item, Item, free, scope}
 use Rattle.op_meaning.specs.Losing.{ends_place}
 use Rattle.op_meaning.specs.Machine.{run_for, step, step_by, stepped, acted, done, do_item, do_task}
 use Rattle.op_meaning.specs.Sets.{bits_below}
@@ -21,7 +21,7 @@ use Rattle.op_meaning.specs.Source.{source, Asked, LetGo, Written, Reported}
 use Rattle.op_meaning.specs.Start.{start, after}
 use Rattle.op_meaning.specs.Texts.{decimal_by}
 use Rattle.op_meaning.specs.Values.{Value, number, parts, text as chars_of, array, instance, named, literal, empty, Holder, global, temporary, object, Place, all_of}
-use Rattle.op_meaning.specs.World.{Object, gone, chars, elements, fields, Live, one}
+use Rattle.op_meaning.specs.World.{Object, gone, chars, elements, fields, Live}
 use Rattle.op_simulation.specs.System.{trace}
 use Rattle.op_tree.specs.declared.operator.Operator.TheVariants.{Add, Div}
 use Rattle.op_tree.specs.declared.position.Name.{Name}
@@ -67,6 +67,7 @@ module _ (name : Name) where
   held_memory (global zero) = of_parts (string 1 ∷ number (pos 5) ∷ string 2 ∷ [])
   held_memory (global (suc v)) = array (Some 3)
   held_memory (object n) = of_parts (string 2 ∷ chars_of (literal (codes "x")) ∷ [])
+  held_memory (temporary d of n) = string 1
   held_memory h = number (pos 0)
 
   abbrev held_objects : ℕ → Object
@@ -77,19 +78,19 @@ module _ (name : Name) where
 
   abbrev held_state : State
   held_state = let s = start held_program [] in record s {
-    world = record s.world { temps = λ t. string 1; made = one 6 ∷ []; memory = held_memory; objects = held_objects; next = 4 };
+    world = record s.world { made = record { of = id 7; n = 6 } ∷ []; memory = held_memory; objects = held_objects; next = 4 };
     work = [];
   }
 
-  holders_of_one : holders held_program held_state 1 ≡ at (global 0) (0 ∷ []) ∷ at (temporary 0 (id 0) 6) [] ∷ []
+  holders_of_one : holders held_program.core held_state 1 ≡ at (global 0) (0 ∷ []) ∷ at (temporary 0 (id 7) 6) [] ∷ []
   unfolding each
   holders_of_one = refl
 
-  holders_of_two : holders held_program held_state 2 ≡ at (global 0) (2 ∷ []) ∷ at (object 3) (0 ∷ []) ∷ []
+  holders_of_two : holders held_program.core held_state 2 ≡ at (global 0) (2 ∷ []) ∷ at (object 3) (0 ∷ []) ∷ []
   unfolding each
   holders_of_two = refl
 
-  holders_of_three : holders held_program held_state 3 ≡ at (global 1) [] ∷ []
+  holders_of_three : holders held_program.core held_state 3 ≡ at (global 1) [] ∷ []
   unfolding each
   holders_of_three = refl
 
@@ -101,7 +102,7 @@ module _ (name : Name) where
   unfolding left_after
   record_ends = refl
 
-  temporary_ends : left_after 4 held_program (record (ends_place (source_rules held_program) (all_of (global 0)) held_state) { work = item (finish 0) ∷ [] }) ≡ record { names = 2 ∷ 3 ∷ []; output = []; errors = [] }
+  temporary_ends : left_after 4 held_program (record (ends_place (source_rules held_program) (all_of (global 0)) held_state) { work = scope (record { of = id 7; n = 6 }) [] ∷ [] }) ≡ record { names = 2 ∷ 3 ∷ []; output = []; errors = [] }
   unfolding left_after
   temporary_ends = refl
 
@@ -112,7 +113,7 @@ module _ (name : Name) where
   abbrev second_ends : State → State
   second_ends s = ends_place (source_rules held_program) (all_of (global 1)) s
 
-  all_end : left_after 4 held_program (second_ends (run_for 4 held_program (record (ends_place (source_rules held_program) (all_of (global 0)) held_state) { work = item (finish 0) ∷ [] })))
+  all_end : left_after 4 held_program (second_ends (run_for 4 held_program (record (ends_place (source_rules held_program) (all_of (global 0)) held_state) { work = scope (record { of = id 7; n = 6 }) [] ∷ [] })))
       ≡ record { names = []; output = []; errors = [] }
   unfolding left_after run_for step step_by stepped acted done do_item do_task each any_below
   all_end = refl

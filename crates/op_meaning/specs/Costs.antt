@@ -10,7 +10,7 @@ use Rattle.op_meaning.specs.Calls.{env_of}
 use Rattle.op_meaning.specs.Demands.{Demand, nothing, block, demand, size_of}
 use Rattle.op_meaning.specs.Expressions.{first_here, result_of}
 use Rattle.op_meaning.specs.Frames.{Program, State, Frame, Caller}
-use Rattle.op_meaning.specs.Items.{Given, by_value, by_reference, by_place, by_copy, Item, act, also, choose, select, loop, body_first, protect, leave, enter, finish, attempt, throw, rethrow, halt, construct, free, Items, none, then_do, Turns, turns, Cases, no_cases, cases, Clauses, no_clauses, for_others, clauses, Task, item, mark, turn, finally, resume, catching, handling, leaving, ending, due}
+use Rattle.op_meaning.specs.Items.{Given, by_value, by_reference, by_place, by_copy, Item, act, also, choose, select, loop, body_first, protect, leave, enter, scoped, attempt, throw, rethrow, halt, construct, free, Items, none, then_do, Turns, turns, Cases, no_cases, cases, Clauses, no_clauses, for_others, clauses, Task, item, mark, turn, finally, resume, catching, scope, handling, leaving, ending, due}
 use Rattle.op_meaning.specs.Machine.{step}
 use Rattle.op_meaning.specs.Paths.{Path, Step, field, element}
 use Rattle.op_meaning.specs.Primitives.{bytes_besides, operands_bytes}
@@ -71,11 +71,11 @@ item_bytes core (choose t first otherwise) = numbers 1
 item_bytes core (select t cs otherwise) = numbers 1
 item_bytes core (loop l) = numbers 1
 item_bytes core (body_first l) = numbers 1
-item_bytes core (protect t keep items finalization) = numbers 1
+item_bytes core (protect t items finalization) = numbers 1
 item_bytes core (leave what) = numbers 1
 item_bytes core (enter r given receiver) = sum_by (given_bytes core) given
-item_bytes core (finish keep) = numbers 1
-item_bytes core (attempt keep items cs) = numbers 1
+item_bytes core (scoped t ts items) = numbers 1
+item_bytes core (attempt items cs) = numbers 1
 item_bytes core (throw t) = numbers 1
 item_bytes core rethrow = numbers 1
 item_bytes core (halt t) = numbers 1
@@ -86,10 +86,11 @@ abbrev pub task_bytes : Core → Task → ℕ
 task_bytes core (item i) = item_bytes core i
 task_bytes core (mark l) = numbers 1
 task_bytes core (turn l) = numbers 1
-task_bytes core (finally t keep finalization) = numbers 1
-task_bytes core (resume t keep) = numbers 1
-task_bytes core (catching keep cs) = numbers 1
-task_bytes core (handling keep instance) = numbers 1
+task_bytes core (finally t finalization) = numbers 1
+task_bytes core (resume t) = numbers 1
+task_bytes core (catching cs) = numbers 1
+task_bytes core (scope t ts) = numbers 1
+task_bytes core (handling instance) = numbers 1
 task_bytes core (leaving reason) = numbers 1
 task_bytes core (ending variables result) = numbers 1
 task_bytes core (due f) = numbers 1
@@ -133,11 +134,11 @@ abbrev mutual
   calls_at (select t cs others) = calls_among cs + calls_in others
   calls_at (loop l) = calls_in_turns l
   calls_at (body_first l) = calls_in_turns l
-  calls_at (protect t keep is ts) = calls_in is + calls_in ts
+  calls_at (protect t is ts) = calls_in is + calls_in ts
   calls_at (leave what) = 0
   calls_at (enter r given receiver) = 1
-  calls_at (finish keep) = 0
-  calls_at (attempt keep is cs) = calls_in is + calls_in_clauses cs
+  calls_at (scoped t ts is) = calls_in is
+  calls_at (attempt is cs) = calls_in is + calls_in_clauses cs
   calls_at (throw t) = 0
   calls_at rethrow = 0
   calls_at (halt t) = 0

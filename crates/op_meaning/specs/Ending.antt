@@ -8,24 +8,29 @@ use Rattle.op_core.specs.declared.ids.ClassId.{ClassId}
 use Rattle.op_core.specs.declared.program.Core.{Core}
 use Rattle.op_core.specs.declared.routine.Routine.{Routine}
 use Rattle.op_meaning.specs.Calls.{a_value, begun}
-use Rattle.op_meaning.specs.Frames.{StateOver, Rules, Frame, walk, destruction, construction, closing, Started, Pending, finalize, empty_global, with_world, with_frames, popped, fails}
+use Rattle.op_meaning.specs.Frames.{StateOver, Rules, Over, a_place, an_array, a_temporary, Frame, walk, destruction, construction, closing, Started, Pending, finalize, empty_global, with_world, with_frames, popped, fails}
 use Rattle.op_meaning.specs.Holding.{is_held}
 use Rattle.op_meaning.specs.Items.{nowhere}
 use Rattle.op_meaning.specs.Losing.{ends_place, is_empty_value, is_managed_value}
 use Rattle.op_meaning.specs.Values.{instance, Place, global, object, all_of}
-use Rattle.op_meaning.specs.World.{World, Object, gone, fields, Phase, Live, Destruction, Dead, Ended, with_object}
+use Rattle.op_meaning.specs.World.{World, Temporary, Object, gone, fields, Phase, Live, Destruction, Dead, Ended, with_object}
 use Rattle.op_tree.specs.declared.heading.RoutineKind.{RoutineKind}
 use Rattle.op_tree.specs.declared.heading.RoutineKind.TheVariants.{Destructor}
 
--- ---- walks: one place in a step; an array is gone when its walk is done
+-- ---- walks: one place in a step; what is walked over is given up when its walk is done
 
-abbrev gone_array : {Work Counts : Type 0} → Option ℕ → StateOver Work Counts → StateOver Work Counts
-gone_array None s = s
-gone_array (Some n) s = with_world (with_object n gone s.world) s
+abbrev without_last : List Temporary → List Temporary
+without_last [] = []
+without_last (t ∷ made) = made
 
-abbrev pub walked : {Work Counts : Type 0} → Rules Work Counts → List Place → Option ℕ → Option ℕ → List Frame → StateOver Work Counts → StateOver Work Counts
-walked rules [] array waits rest s = popped waits rest (gone_array array s)
-walked rules (q ∷ qs) array waits rest s = ends_place rules q (with_frames (walk qs array waits ∷ rest) s)
+abbrev given_up : {Work Counts : Type 0} → Over → StateOver Work Counts → StateOver Work Counts
+given_up a_place s = s
+given_up (an_array n) s = with_world (with_object n gone s.world) s
+given_up a_temporary s = with_world (record s.world { made = without_last s.world.made }) s
+
+abbrev pub walked : {Work Counts : Type 0} → Rules Work Counts → List Place → Over → Option ℕ → List Frame → StateOver Work Counts → StateOver Work Counts
+walked rules [] over waits rest s = popped waits rest (given_up over s)
+walked rules (q ∷ qs) over waits rest s = ends_place rules q (with_frames (walk qs over waits ∷ rest) s)
 
 -- ---- destructions
 
@@ -94,7 +99,7 @@ closed rules status (empty_global v ∷ pending) s = ends_place rules (all_of (g
 -- ---- a frame acts
 
 abbrev pub framed : {Work Counts : Type 0} → Rules Work Counts → Frame → List Frame → StateOver Work Counts → StateOver Work Counts
-framed rules (walk places array waits) rest s = walked rules places array waits rest s
+framed rules (walk places over waits) rest s = walked rules places over waits rest s
 framed rules (destruction i started entered places waits) rest s = destroyed rules i started entered places waits rest s
 framed rules (construction i) rest s = with_frames rest (with_world (in_phase Live i s.world) s)
 framed rules (closing status) rest s = closed rules status s.pending s

@@ -30,14 +30,13 @@ use Rattle.op_tree.specs.declared.operator.PrefixOperator.TheVariants.{Not, Plus
 -- ---- temporaries
 
 -- Temporaries are numbered by where a value stands in the text. `Here` has the first free one for a value and the first free one for
--- a record or an array, and how many stand round the statement that have to be ended.
+-- a record or an array.
 pub record Here : Type 0 where
   pub temp : ℕ
   pub whole : ℕ
-  pub keep : ℕ
 
 abbrev pub first_here : Here
-first_here = record { temp = 0; whole = 0; keep = 0 }
+first_here = record { temp = 0; whole = 0 }
 
 abbrev pub past : ℕ → Here → Here
 past n here = record here { temp = here.temp + n }

@@ -59,11 +59,18 @@ pub data Started : Type 0 where
   by_constructor : Started
   by_handler : Started
 
+-- What a walk ends the parts of: a place; an array that was lost, which is gone when its walk is done; or the temporary that was made
+-- last, which holds its parts until then.
+pub data Over : Type 0 where
+  a_place : Over
+  an_array : (name : ℕ) → Over
+  a_temporary : Over
+
 -- What has to be done before the activation below goes on. An exception that waits in a frame is under way again when the frame is
 -- done.
 pub data Frame : Type 0 where
-  -- the places still to be ended, which keep their values until then; of an array that was lost, its name
-  walk : (places : List Place) → (array waits : Option ℕ) → Frame
+  -- the places still to be ended, which keep their values until then
+  walk : (places : List Place) → (over : Over) → (waits : Option ℕ) → Frame
   -- of an instance: whether Destroy was entered, and the fields still to be ended
   destruction : (instance : ℕ) → (started : Started) → (entered : Bool) → (places : List Place) → (waits : Option ℕ) → Frame
   -- its constructor is under way

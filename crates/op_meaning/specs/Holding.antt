@@ -2,10 +2,11 @@
 -- counts. (Free Pascal Reference Guide, "Managed types" and "Reference counting".)
 use Rattle.std.specs.Prelude.{ℕ, zero, suc, Bool, false, ◌&&◌, ◌||◌, List, [], ◌∷◌, ◌++◌, length, Option, Some, None, nat_eq, nat_lt, if◌then◌else◌}
 use Rattle.std.specs.List.{flat_map}
+use Rattle.op_core.specs.declared.program.Core.{Core}
 use Rattle.op_meaning.specs.Frames.{Program, StateOver, CallerOver, Rules}
-use Rattle.op_meaning.specs.Shapes.{no_type, variables_of}
+use Rattle.op_meaning.specs.Shapes.{variables_of}
 use Rattle.op_meaning.specs.Values.{Value, parts, text, line, array, instance, named, Holder, global, local, temporary, object, Place, all_of, part_at}
-use Rattle.op_meaning.specs.World.{World, Object, elements, fields, Dead, Temporary, one, whole}
+use Rattle.op_meaning.specs.World.{World, Object, elements, fields, Dead, Temporary}
 
 -- ---- what a value contains
 
@@ -37,26 +38,26 @@ places_in y p v = if names v y then p ∷ [] else []
 
 -- ---- what holds
 
-abbrev pub holders_in_temporaries : World → ℕ → ℕ → (ℕ → Value) → List Temporary → List Place
-holders_in_temporaries w y d temps [] = []
-holders_in_temporaries w y d temps (one n ∷ made) = holders_in_temporaries w y d temps made ++ places_in y (all_of (temporary d no_type n)) (temps n)
-holders_in_temporaries w y d temps (whole of n ∷ made) = holders_in_temporaries w y d temps made ++ places_in y (all_of (temporary d of n)) (w.memory (temporary d of n))
-
 abbrev pub in_holder : World → ℕ → Holder → List Place
 in_holder w y h = places_in y (all_of h) (w.memory h)
 
+-- the temporaries of an activation that have to be ended
+abbrev pub holders_in_temporaries : World → ℕ → ℕ → List Temporary → List Place
+holders_in_temporaries w y d [] = []
+holders_in_temporaries w y d (t ∷ made) = holders_in_temporaries w y d made ++ in_holder w y (temporary d t.of t.n)
+
 -- the variables of an activation of a routine: its parameters, its locals and its result. What a variable parameter stands for is
 -- elsewhere.
-abbrev pub holders_in_variables : Program → World → ℕ → ℕ → ℕ → List Place
-holders_in_variables p w y d r = each (variables_of p.core r).count (λ v. in_holder w y (local d v))
+abbrev pub holders_in_variables : Core → World → ℕ → ℕ → ℕ → List Place
+holders_in_variables core w y d r = each (variables_of core r).count (λ v. in_holder w y (local d v))
 
-abbrev pub holders_in_activation : Program → World → ℕ → ℕ → ℕ → (ℕ → Value) → List Temporary → List Place
-holders_in_activation p w y d r temps made = holders_in_variables p w y d r ++ holders_in_temporaries w y d temps made
+abbrev pub holders_in_activation : Core → World → ℕ → ℕ → ℕ → List Temporary → List Place
+holders_in_activation core w y d r made = holders_in_variables core w y d r ++ holders_in_temporaries w y d made
 
 -- the activations that wait; the last one of the list is the lowest
-abbrev pub holders_in_callers : {Work : Type 0} → Program → World → ℕ → List (CallerOver Work) → List Place
-holders_in_callers p w y [] = []
-holders_in_callers p w y (c ∷ cs) = holders_in_callers p w y cs ++ holders_in_activation p w y (length cs) c.routine c.temps c.made
+abbrev pub holders_in_callers : {Work : Type 0} → Core → World → ℕ → List (CallerOver Work) → List Place
+holders_in_callers core w y [] = []
+holders_in_callers core w y (c ∷ cs) = holders_in_callers core w y cs ++ holders_in_activation core w y (length cs) c.routine c.made
 
 -- under a name: the elements of an array, also of one that is walked over, and the fields of an instance that is not dead
 abbrev pub holders_in_object : World → ℕ → ℕ → Object → List Place
@@ -68,16 +69,16 @@ holders_in_object w y n _ = []
 -- ---- the whole state
 
 -- globals, activations from the lowest one up, and all names that were given
-abbrev pub holders : {Work Counts : Type 0} → Program → StateOver Work Counts → ℕ → List Place
-holders p s y =
-    flat_map (λ v. in_holder s.world y (global v.0)) p.core.globals
-    ++ holders_in_callers p s.world y s.callers
-    ++ holders_in_activation p s.world y (length s.callers) s.routine s.world.temps s.world.made
+abbrev pub holders : {Work Counts : Type 0} → Core → StateOver Work Counts → ℕ → List Place
+holders core s y =
+    flat_map (λ v. in_holder s.world y (global v.0)) core.globals
+    ++ holders_in_callers core s.world y s.callers
+    ++ holders_in_activation core s.world y (length s.callers) s.routine s.world.made
     ++ each s.world.next (λ n. holders_in_object s.world y n (s.world.objects n))
 
 -- the rules of a machine that looks for the holders of a name when it has to know how many there are
 abbrev pub searching : {Work : Type 0} → Program → (ℕ → Work) → Rules Work (Unit {0})
-searching p body = record { program = p; body = body; number = λ s y. length (holders p s y); more = λ y s. s; less = λ y s. s }
+searching p body = record { program = p; body = body; number = λ s y. length (holders p.core s y); more = λ y s. s; less = λ y s. s }
 
 abbrev pub is_held : {Work Counts : Type 0} → Rules Work Counts → StateOver Work Counts → ℕ → Bool
 is_held rules s y = nat_lt 0 (rules.number s y)

@@ -8,6 +8,7 @@ use Rattle.op_core.specs.declared.statement.Label.{Label}
 use Rattle.op_core.specs.declared.types.IntegerKind.{IntegerKind}
 use Rattle.op_meaning.specs.Actions.{Action}
 use Rattle.op_meaning.specs.Paths.{Path, Root}
+use Rattle.op_meaning.specs.World.{Temporary}
 
 -- what a parameter is given: the low bits of a number, another value, a place, or a copy of what stands at a place ("Value
 -- parameters", "Variable parameters", "Out parameters" and "Constant parameters")
@@ -23,7 +24,6 @@ pub data Receiver : Type 0 where
   to_temp : (temp : ℕ) → Receiver
   to_place : (of : TypeId) → (to : Path) → Receiver
 
--- Of a construct that has to end temporaries, `keep` says how many stand round it and stay.
 mutual
   pub data Item : Type 0 where
     act : (action : Action) → Item
@@ -36,14 +36,15 @@ mutual
     -- a loop, from its body on
     body_first : (turns : Turns) → Item
     -- a part with a finally part; why it is left stands in the temporary, and an exception that waits in the next one
-    protect : (temp keep : ℕ) → (items finalization : Items) → Item
+    protect : (temp : ℕ) → (items finalization : Items) → Item
     -- 0 leaves the routine, 1 the loop, 2 its turn
     leave : (what : ℕ) → Item
     enter : (routine : ℕ) → (given : List Given) → (receiver : Receiver) → Item
-    -- temporaries end, the last one that was made first
-    finish : (keep : ℕ) → Item
+    -- items that may make these temporaries, the first one and others: behind them, and where they are left, these end in this order,
+    -- the last one that is made first, and of each only what was made
+    scoped : (first : Temporary) → (others : List Temporary) → (items : Items) → Item
     -- a part with handlers
-    attempt : (keep : ℕ) → (items : Items) → (clauses : Clauses) → Item
+    attempt : (items : Items) → (clauses : Clauses) → Item
     -- raises the instance in a temporary, or again that of the handler
     throw : (temp : ℕ) → Item
     rethrow : Item
@@ -100,13 +101,15 @@ pub data Task : Type 0 where
   -- the head of a loop was done
   turn : (turns : Turns) → Task
   -- behind a part with a finally part
-  finally : (temp keep : ℕ) → (finalization : Items) → Task
+  finally : (temp : ℕ) → (finalization : Items) → Task
   -- behind a finally part: what is left goes on, as the temporaries tell
-  resume : (temp keep : ℕ) → Task
+  resume : (temp : ℕ) → Task
   -- behind a part with handlers
-  catching : (keep : ℕ) → (clauses : Clauses) → Task
+  catching : (clauses : Clauses) → Task
+  -- behind items that may have made these temporaries: the first one ends next
+  scope : (first : Temporary) → (others : List Temporary) → Task
   -- behind a handler of an instance
-  handling : (keep instance : ℕ) → Task
+  handling : (instance : ℕ) → Task
   -- Exit, Break or Continue goes on
   leaving : (reason : ℕ) → Task
   -- behind a body: the variables that have to be ended, and the result where an exception leaves

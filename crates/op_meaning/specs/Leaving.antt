@@ -1,17 +1,13 @@
 -- Exit, Break and Continue: what is still to be done in the activation is cut off up to the part with a finally part, the handler or
--- the loop that comes next. Temporaries of the statements that are left end first. (Free Pascal Reference Guide, "The
+-- the loop that comes next, or to the end of items whose temporaries end first. (Free Pascal Reference Guide, "The
 -- try...finally statement"; reference of the unit System, "Exit", "Break" and "Continue".)
-use Rattle.std.specs.Prelude.{ℕ, zero, suc, ◌+◌, ℤ, pos, List, [], ◌∷◌, length, Option, None, nat_lt, if◌then◌else◌}
+use Rattle.std.specs.Prelude.{ℕ, zero, suc, ◌+◌, ℤ, pos, List, [], ◌∷◌, Option, None}
 use Rattle.op_meaning.specs.Frames.{StateOver, State, with_work}
-use Rattle.op_meaning.specs.Items.{finish, Turns, head_of, Task, item, mark, turn, finally, resume, catching, handling, leaving, ending, due, onto}
+use Rattle.op_meaning.specs.Items.{Turns, head_of, Task, item, mark, turn, finally, resume, catching, scope, handling, leaving, ending, due, onto}
 use Rattle.op_meaning.specs.Values.{Value, instance}
 use Rattle.op_meaning.specs.World.{World, with_number}
 
 -- why something is left: 1 the routine is left, 2 a loop, 3 its turn, and 4 by an exception
-
--- what is to be done once no more temporaries than these stand
-abbrev pub finishing : ℕ → List Task → World → List Task
-finishing keep work w = if nat_lt keep (length w.made) then item (finish keep) ∷ work else work
 
 pub record Cut : Type 0 where
   pub work : List Task
@@ -22,17 +18,19 @@ cut_loop (suc (suc zero)) l work w further = record { work = work; world = w }
 cut_loop (suc (suc (suc zero))) l work w further = record { work = onto (head_of l) (turn l ∷ work); world = w }
 cut_loop _ l work w further = further
 
--- A finally part is done with the reason in its temporary, and what is left goes on behind it. A handler ends first.
+-- A finally part is done with the reason in its temporary, and what is left goes on behind it. Temporaries, and the instance of a handler,
+-- end first.
 abbrev pub cut : ℕ → List Task → World → Cut
-cut reason [] w = record { work = finishing 0 [] w; world = w }
+cut reason [] w = record { work = []; world = w }
 cut reason (mark l ∷ work) w = cut_loop reason l work w (cut reason work w)
-cut reason (finally t keep ts ∷ work) w = record { work = finishing keep (onto ts (resume t keep ∷ work)) w; world = with_number t (pos reason) w }
-cut reason (handling keep i ∷ work) w = record { work = finishing keep (handling keep i ∷ leaving reason ∷ work) w; world = w }
-cut reason (ending vs result ∷ work) w = record { work = finishing 0 (ending vs result ∷ work) w; world = w }
+cut reason (finally t ts ∷ work) w = record { work = onto ts (resume t ∷ work); world = with_number t (pos reason) w }
+cut reason (scope t ts ∷ work) w = record { work = scope t ts ∷ leaving reason ∷ work; world = w }
+cut reason (handling i ∷ work) w = record { work = handling i ∷ leaving reason ∷ work; world = w }
+cut reason (ending vs result ∷ work) w = record { work = ending vs result ∷ work; world = w }
 cut reason (item i ∷ work) w = cut reason work w
 cut reason (turn l ∷ work) w = cut reason work w
-cut reason (resume t keep ∷ work) w = cut reason work w
-cut reason (catching keep cs ∷ work) w = cut reason work w
+cut reason (resume t ∷ work) w = cut reason work w
+cut reason (catching cs ∷ work) w = cut reason work w
 cut reason (leaving other ∷ work) w = cut reason work w
 cut reason (due f ∷ work) w = cut reason work w
 

@@ -1,11 +1,12 @@
 -- What a loss starts, at once and before anything else. A place becomes empty; a string that nothing holds any more is gone; an array
 -- is walked over, element by element; a live instance that loses its last interface is destroyed. (Free Pascal Reference Guide,
 -- "Managed types", "Reference counting" and "Class destruction".)
-use Rattle.std.specs.Prelude.{ℕ, Bool, true, false, not, List, [], ◌∷◌, Option, Some, None, if◌then◌else◌}
-use Rattle.op_meaning.specs.Frames.{Program, StateOver, Rules, walk, destruction, by_loss, by_handler, with_world, pushed}
+use Rattle.std.specs.Prelude.{ℕ, Bool, true, false, not, ◌&&◌, nat_eq, List, [], ◌∷◌, Option, Some, None, if◌then◌else◌}
+use Rattle.op_core.specs.Types.{is_same}
+use Rattle.op_meaning.specs.Frames.{Program, StateOver, Rules, a_place, an_array, a_temporary, walk, destruction, by_loss, by_handler, with_world, pushed}
 use Rattle.op_meaning.specs.Holding.{each, any_below, is_held, is_name}
 use Rattle.op_meaning.specs.Values.{Value, number, parts, text, line, array, instance, empty, named, Place, object, temporary, all_of, part_at, emptied}
-use Rattle.op_meaning.specs.World.{Object, gone, chars, buffer, elements, fields, Live, Temporary, one, whole, with_object, with_temp, value_at, with_value}
+use Rattle.op_meaning.specs.World.{Object, gone, chars, buffer, elements, fields, Live, Temporary, with_object, value_at, with_value}
 
 -- ---- which parts have to be ended
 
@@ -40,7 +41,7 @@ abbrev pub falls : {Work Counts : Type 0} → Program → ℕ → Object → Sta
 falls p n gone s = s
 falls p n (chars bytes) s = with_world (with_object n gone s.world) s
 falls p n (buffer bytes capacity) s = with_world (with_object n gone s.world) s
-falls p n (elements of count) s = pushed p (walk (walk_over (all_of (object n)) (s.world.memory (object n))) (Some n)) s
+falls p n (elements of count) s = pushed p (walk (walk_over (all_of (object n)) (s.world.memory (object n))) (an_array n)) s
 falls p n (fields c Live) s = pushed p (destruction n by_loss false (walk_over (all_of (object n)) (s.world.memory (object n)))) s
 falls p n (fields c phase) s = s
 
@@ -64,20 +65,29 @@ loses_value rules v s = s
 
 -- a record or an array with managed parts becomes a walk over these, and what is one value becomes empty and is lost
 abbrev pub ends_value : {Work Counts : Type 0} → Rules Work Counts → Place → Value → StateOver Work Counts → StateOver Work Counts
-ends_value rules q (parts count part) s = pushed rules.program (walk (walk_over q (parts count part)) None) s
+ends_value rules q (parts count part) s = pushed rules.program (walk (walk_over q (parts count part)) a_place) s
 ends_value rules q v s = loses_value rules v (with_world (with_value q (emptied v) s.world) s)
 
 abbrev pub ends_place : {Work Counts : Type 0} → Rules Work Counts → Place → StateOver Work Counts → StateOver Work Counts
 ends_place rules q s = ends_value rules q (value_at s.world q) s
 
--- the last temporary that was made ends
-abbrev pub ends_temporary : {Work Counts : Type 0} → Rules Work Counts → List Temporary → StateOver Work Counts → StateOver Work Counts
-ends_temporary rules [] s = s
-ends_temporary rules (one n ∷ made) s = loses_value rules (s.world.temps n) (with_world (with_temp n (emptied (s.world.temps n)) (record s.world { made = made })) s)
-ends_temporary rules (whole of n ∷ made) s = ends_place rules (all_of (temporary s.world.depth of n)) (with_world (record s.world { made = made }) s)
+-- the temporary that was made last ends, in front of others; one with parts holds them until its walk is done
+abbrev pub ends_last : {Work Counts : Type 0} → Rules Work Counts → Place → List Temporary → Value → StateOver Work Counts → StateOver Work Counts
+ends_last rules q made (parts count part) s = pushed rules.program (walk (walk_over q (parts count part)) a_temporary) s
+ends_last rules q made v s = loses_value rules v (with_world (record (with_value q (emptied v) s.world) { made = made }) s)
 
-abbrev pub ends_last : {Work Counts : Type 0} → Rules Work Counts → StateOver Work Counts → StateOver Work Counts
-ends_last rules s = ends_temporary rules s.world.made s
+abbrev pub same_temporary : Temporary → Temporary → Bool
+same_temporary t u = is_same t.of u.of && nat_eq t.n u.n
+
+abbrev pub ends_among : {Work Counts : Type 0} → Rules Work Counts → Temporary → List Temporary → StateOver Work Counts → StateOver Work Counts
+ends_among rules t [] s = s
+ends_among rules t (u ∷ made) s =
+    let q = all_of (temporary s.world.depth t.of t.n) in
+    if same_temporary t u then ends_last rules q made (value_at s.world q) s else s
+
+-- A temporary ends, if it was made. Temporaries end in reverse order of making, so it is the last one then.
+abbrev pub ends_made : {Work Counts : Type 0} → Rules Work Counts → Temporary → StateOver Work Counts → StateOver Work Counts
+ends_made rules t s = ends_among rules t s.world.made s
 
 -- ---- an exception is freed
 

@@ -1,7 +1,7 @@
 -- The source machine: what a program does in one step. A state that has not ended has exactly one next state: the exception under way
 -- goes on, or the frame on the activation acts, or the first task of the activation is done. (Free Pascal Reference Guide, "Statements",
 -- "Using functions and procedures", "Programs, units, blocks" and "Exceptions".)
-use Rattle.std.specs.Prelude.{ℕ, zero, suc, ℤ, pos, unsigned_abs, Bool, true, false, List, [], ◌∷◌, length, Option, Some, None, nat_lt, if◌then◌else◌}
+use Rattle.std.specs.Prelude.{ℕ, zero, suc, ℤ, pos, unsigned_abs, Bool, true, false, List, [], ◌∷◌, Option, Some, None, if◌then◌else◌}
 use Rattle.std.specs.Int.{int_rem_euclid}
 use Rattle.std.specs.List.{list_any}
 use Rattle.op_core.specs.declared.ids.ClassId.{ClassId}
@@ -11,14 +11,14 @@ use Rattle.op_meaning.specs.Calls.{Handed, a_value, all_handed, begun, called, g
 use Rattle.op_meaning.specs.Ending.{framed}
 use Rattle.op_meaning.specs.Frames.{Program, StateOver, CallerOver, State, Rules, Frame, destruction, construction, by_free, finalize, with_work, with_world, with_frames, fails, pushed}
 use Rattle.op_meaning.specs.Holding.{is_held}
-use Rattle.op_meaning.specs.Items.{Given, nowhere, Item, act, also, choose, select, loop, body_first, protect, leave, enter, finish, attempt, throw, rethrow, halt, construct, free, Items, Turns, turns, head_of, body_of, Cases, no_cases, cases, Task, item, mark, turn, finally, resume, catching, handling, leaving, ending, due, onto}
+use Rattle.op_meaning.specs.Items.{Given, nowhere, Item, act, also, choose, select, loop, body_first, protect, leave, enter, scoped, attempt, throw, rethrow, halt, construct, free, Items, Turns, turns, head_of, body_of, Cases, no_cases, cases, Task, item, mark, turn, finally, resume, catching, scope, handling, leaving, ending, due, onto}
 use Rattle.op_meaning.specs.Leaving.{left, resumed, name_in}
-use Rattle.op_meaning.specs.Losing.{ends_last, ends_place, freed, walk_over}
+use Rattle.op_meaning.specs.Losing.{ends_made, ends_place, freed, walk_over}
 use Rattle.op_meaning.specs.Numbers.{between, is_true}
 use Rattle.op_meaning.specs.Shapes.{zero_instance}
 use Rattle.op_meaning.specs.Unwinding.{closes, unwound}
 use Rattle.op_meaning.specs.Values.{instance, local, object, all_of}
-use Rattle.op_meaning.specs.World.{World, Object, fields, Construction, Live, Dead, Ending, Running, Ended, with_temp, with_number, with_value, number_at, making}
+use Rattle.op_meaning.specs.World.{World, Temporary, Object, fields, Construction, Live, Dead, Ending, Running, Ended, with_temp, with_number, with_value, number_at, making}
 
 -- ---- choices ("The Case statement", "The If..then..else statement" and "Boolean operators")
 
@@ -46,8 +46,10 @@ turned w (turns head t true between body) work = tested w t work (another_turn (
 
 -- ---- temporaries
 
-abbrev pub finishes : Program → ℕ → List Task → State → State
-finishes p keep work s = if nat_lt keep (length s.world.made) then ends_last (source_rules p) (with_work (item (finish keep) ∷ work) s) else with_work work s
+-- those that end still, in this order
+abbrev pub scope_on : List Temporary → List Task → List Task
+scope_on [] work = work
+scope_on (t ∷ ts) work = scope t ts ∷ work
 
 -- ---- exceptions ("The raise statement")
 
@@ -64,7 +66,7 @@ throws p (Some e) work s = raised_if p e (s.world.objects e) work s
 -- the instance of the handler round it
 abbrev pub handled_in : List Task → Option ℕ
 handled_in [] = None
-handled_in (handling keep i ∷ work) = Some i
+handled_in (handling i ∷ work) = Some i
 handled_in (task ∷ work) = handled_in work
 
 -- ---- instances ("Class instantiation" and "Class destruction")
@@ -111,11 +113,11 @@ do_item p (choose t a b) work s = with_work (tested s.world t (onto a work) (ont
 do_item p (select t cs others) work s = with_work (onto (selected (number_at s.world t) cs others) work) s
 do_item p (loop l) work s = with_work (onto (head_of l) (turn l ∷ work)) s
 do_item p (body_first l) work s = with_work (onto (body_of l) (mark l ∷ work)) s
-do_item p (protect t keep is ts) work s = record s { world = with_number t (pos 0) s.world; work = onto is (finally t keep ts ∷ work) }
+do_item p (protect t is ts) work s = record s { world = with_number t (pos 0) s.world; work = onto is (finally t ts ∷ work) }
 do_item p (leave what) work s = left (suc what) work s
 do_item p (enter r given receiver) work s = called (source_rules p) r given receiver work s
-do_item p (finish keep) work s = finishes p keep work s
-do_item p (attempt keep is cs) work s = with_work (onto is (catching keep cs ∷ work)) s
+do_item p (scoped t ts is) work s = with_work (onto is (scope t ts ∷ work)) s
+do_item p (attempt is cs) work s = with_work (onto is (catching cs ∷ work)) s
 do_item p (throw t) work s = throws p (name_in (s.world.temps t)) work s
 do_item p rethrow work s = throws p (handled_in work) work s
 do_item p (halt t) work s = halts (number_at s.world t) (with_work work s)
@@ -128,10 +130,11 @@ unfoldable pub do_task : Program → Task → List Task → State → State
 do_task p (item i) work s = do_item p i work s
 do_task p (mark l) work s = with_work (onto (head_of l) (turn l ∷ work)) s
 do_task p (turn l) work s = with_work (turned s.world l work) s
-do_task p (finally t keep ts) work s = with_work (onto ts (resume t keep ∷ work)) s
-do_task p (resume t keep) work s = resumed (number_at s.world t) t work s
-do_task p (catching keep cs) work s = with_work work s
-do_task p (handling keep i) work s = freed p i (with_work work s)
+do_task p (finally t ts) work s = with_work (onto ts (resume t ∷ work)) s
+do_task p (resume t) work s = resumed (number_at s.world t) t work s
+do_task p (catching cs) work s = with_work work s
+do_task p (scope t ts) work s = ends_made (source_rules p) t (with_work (scope_on ts work) s)
+do_task p (handling i) work s = freed p i (with_work work s)
 do_task p (leaving reason) work s = left reason work s
 do_task p (ending [] result) work s = with_work work s
 do_task p (ending (v ∷ vs) result) work s = ends_place (source_rules p) (all_of (local s.world.depth v)) (with_work (ending vs result ∷ work) s)

@@ -6,7 +6,7 @@ use Rattle.op_meaning.specs.Actions.{Action}
 use Rattle.op_meaning.specs.Costs.{cost}
 use Rattle.op_meaning.specs.Demands.{Demand, nothing, demand, let_go}
 use Rattle.op_meaning.specs.Frames.{Program, State, Frame}
-use Rattle.op_meaning.specs.Items.{Item, act, also, choose, select, loop, body_first, protect, leave, enter, finish, attempt, throw, rethrow, halt, construct, free, Task, item, mark, turn, finally, resume, catching, handling, leaving, ending, due}
+use Rattle.op_meaning.specs.Items.{Item, act, also, choose, select, loop, body_first, protect, leave, enter, scoped, attempt, throw, rethrow, halt, construct, free, Task, item, mark, turn, finally, resume, catching, scope, handling, leaving, ending, due}
 use Rattle.op_meaning.specs.Machine.{step}
 use Rattle.op_meaning.specs.World.{World}
 
@@ -48,11 +48,11 @@ looks_for (choose t first otherwise) = false
 looks_for (select t cs otherwise) = false
 looks_for (loop l) = false
 looks_for (body_first l) = false
-looks_for (protect t keep items finalization) = false
+looks_for (protect t items finalization) = false
 looks_for (leave what) = false
 looks_for (enter r given receiver) = false
-looks_for (finish keep) = false
-looks_for (attempt keep items cs) = false
+looks_for (scoped t ts items) = false
+looks_for (attempt items cs) = false
 looks_for (throw t) = false
 looks_for rethrow = false
 looks_for (halt t) = false
@@ -64,10 +64,11 @@ looks_in [] = false
 looks_in (item i ∷ work) = looks_for i
 looks_in (mark l ∷ work) = false
 looks_in (turn l ∷ work) = false
-looks_in (finally t keep finalization ∷ work) = false
-looks_in (resume t keep ∷ work) = false
-looks_in (catching keep cs ∷ work) = false
-looks_in (handling keep instance ∷ work) = false
+looks_in (finally t finalization ∷ work) = false
+looks_in (resume t ∷ work) = false
+looks_in (catching cs ∷ work) = false
+looks_in (scope t ts ∷ work) = false
+looks_in (handling instance ∷ work) = false
 looks_in (leaving reason ∷ work) = false
 looks_in (ending variables result ∷ work) = false
 looks_in (due f ∷ work) = false

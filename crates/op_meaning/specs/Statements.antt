@@ -197,9 +197,9 @@ abbrev mutual
   work_of env here (repeat_until ss e) = only (body_first (turns (make env here e).items here.temp true none (work_of_all env here ss)))
   work_of env here (for_to v e d f s) = (make env here e).items & (make env (past 1 here) f).items & for_items env here v d (work_of env (past 3 here) s)
   work_of env here (for_in v into e s) = (make env here e).items & in_collection env here (type_of e) (type_at env.core (type_of e)) v into (work_of env (in_turn here) s)
-  work_of env here (try_finally ss ts) = only (protect here.temp here.keep (work_of_all env (past 2 here) ss) (work_of_all env (past 2 here) ts))
-  work_of env here (try_on ss hs) = only (attempt here.keep (work_of_all env here ss) (clauses_of env here hs no_clauses))
-  work_of env here (try_on_else ss hs ts) = only (attempt here.keep (work_of_all env here ss) (clauses_of env here hs (for_others (work_of_all env here ts))))
+  work_of env here (try_finally ss ts) = only (protect here.temp (work_of_all env (past 2 here) ss) (work_of_all env (past 2 here) ts))
+  work_of env here (try_on ss hs) = only (attempt (work_of_all env here ss) (clauses_of env here hs no_clauses))
+  work_of env here (try_on_else ss hs ts) = only (attempt (work_of_all env here ss) (clauses_of env here hs (for_others (work_of_all env here ts))))
   work_of env here (raise e) = (make env here e).items & only (throw here.temp)
   work_of env here reraise = only rethrow
   work_of env here (call e) = (find env here e).items

@@ -1,21 +1,21 @@
 -- An exception under way: the frame that acts next decides. Temporaries end first, a finally part runs while the exception waits, the
 -- first clause that fits becomes a handler, an activation ends what it has and is left; where nothing is left, nothing handles it.
 -- (Free Pascal Reference Guide, "Exceptions"; User's Guide, "Run-time errors".)
-use Rattle.std.specs.Prelude.{ℕ, zero, suc, ◌+◌, ℤ, pos, Bool, false, ◌||◌, List, [], ◌∷◌, ◌++◌, length, Option, Some, None, codes, slice_get, nat_eq, nat_lt, if◌then◌else◌}
+use Rattle.std.specs.Prelude.{ℕ, zero, suc, ◌+◌, ℤ, pos, Bool, false, ◌||◌, List, [], ◌∷◌, ◌++◌, length, Option, Some, None, codes, slice_get, nat_eq, if◌then◌else◌}
 use Rattle.op_core.specs.declared.class.Class.{Class as ClassRow}
 use Rattle.op_core.specs.declared.ids.ClassId.{ClassId}
 use Rattle.op_core.specs.declared.program.Core.{Core}
 use Rattle.op_core.specs.declared.program.ExceptionClasses.{ExceptionClasses}
 use Rattle.op_meaning.specs.Calls.{gone_back_raising, source_rules}
 use Rattle.op_meaning.specs.Frames.{Program, StateOver, CallerOver, State, Frame, destruction, construction, closing, by_free, by_constructor, with_work, with_world, with_frames, pushed, fails}
-use Rattle.op_meaning.specs.Items.{Items, Clauses, no_clauses, for_others, clauses, Task, item, mark, turn, finally, resume, catching, handling, leaving, ending, due, onto}
+use Rattle.op_meaning.specs.Items.{Items, Clauses, no_clauses, for_others, clauses, Task, item, mark, turn, finally, resume, catching, scope, handling, leaving, ending, due, onto}
 use Rattle.op_meaning.specs.Leaving.{name_in}
-use Rattle.op_meaning.specs.Losing.{ends_last, ends_place, freed, walk_over}
+use Rattle.op_meaning.specs.Losing.{ends_made, ends_place, freed, walk_over}
 use Rattle.op_meaning.specs.Paths.{Root, place_of_root}
 use Rattle.op_meaning.specs.Shapes.{field_of_class}
 use Rattle.op_meaning.specs.Texts.{line_feed}
 use Rattle.op_meaning.specs.Values.{Value, text, instance, empty, literal, named, Text, local, object, all_of, part_of}
-use Rattle.op_meaning.specs.World.{World, Object, chars, fields, Dead, with_temp, with_number, with_value, number_at, reported}
+use Rattle.op_meaning.specs.World.{World, Temporary, Object, chars, fields, Dead, with_temp, with_number, with_value, number_at, reported}
 
 -- ---- classes ("Classes")
 
@@ -88,14 +88,6 @@ stops_at (leaving reason ∷ work) = stops_at work
 stops_at (due f ∷ work) = stops_at work
 stops_at (task ∷ work) = task ∷ work
 
--- how many temporaries stay there
-abbrev pub keep_at : List Task → ℕ
-keep_at (finally t keep ts ∷ work) = keep
-keep_at (resume t keep ∷ work) = keep
-keep_at (catching keep cs ∷ work) = keep
-keep_at (handling keep i ∷ work) = keep
-keep_at _ = 0
-
 -- the clause that takes an instance of the class, with the variable that names the instance
 abbrev pub clause_for : Core → ClassId → Clauses → Option (Option Root × Items)
 clause_for core c no_clauses = None
@@ -107,20 +99,20 @@ named_by None e w = w
 named_by (Some root) e w = with_value (place_of_root w root) (instance false (Some e)) w
 
 -- the handler is under way, and nothing is raised
-abbrev pub caught : ℕ → ℕ → Option (Option Root × Items) → List Task → State → State
-caught keep e None work s = with_work work s
-caught keep e (Some clause) work s = record s { world = named_by clause.0 e (record s.world { raised = None }); work = onto clause.1 (handling keep e ∷ work) }
+abbrev pub caught : ℕ → Option (Option Root × Items) → List Task → State → State
+caught e None work s = with_work work s
+caught e (Some clause) work s = record s { world = named_by clause.0 e (record s.world { raised = None }); work = onto clause.1 (handling e ∷ work) }
 
-abbrev caught_as : Program → ℕ → ℕ → Object → Clauses → List Task → State → State
-caught_as p keep e (fields c Dead) cs work s = fails p 216 s
-caught_as p keep e (fields c phase) cs work s = caught keep e (clause_for p.core c cs) work s
-caught_as p keep e o cs work s = fails p 216 s
+abbrev caught_as : Program → ℕ → Object → Clauses → List Task → State → State
+caught_as p e (fields c Dead) cs work s = fails p 216 s
+caught_as p e (fields c phase) cs work s = caught e (clause_for p.core c cs) work s
+caught_as p e o cs work s = fails p 216 s
 
 -- the instance is asked for its class only where there is a clause with one
-abbrev pub catches : Program → ℕ → ℕ → Clauses → List Task → State → State
-catches p keep e no_clauses work s = with_work work s
-catches p keep e (for_others is) work s = caught keep e (Some (None, is)) work s
-catches p keep e (clauses d v is others) work s = caught_as p keep e (s.world.objects e) (clauses d v is others) work s
+abbrev pub catches : Program → ℕ → Clauses → List Task → State → State
+catches p e no_clauses work s = with_work work s
+catches p e (for_others is) work s = caught e (Some (None, is)) work s
+catches p e (clauses d v is others) work s = caught_as p e (s.world.objects e) (clauses d v is others) work s
 
 -- the exception that waited in a finally part is replaced, and freed
 abbrev replaces : {Work Counts : Type 0} → Program → ℤ → Option ℕ → StateOver Work Counts → StateOver Work Counts
@@ -132,21 +124,19 @@ leaves_activation p e [] s = unhandled p e s
 leaves_activation p e (c ∷ cs) s = gone_back_raising p c cs s
 
 abbrev pub unwound_at : Program → ℕ → List Task → State → State
-unwound_at p e (finally t keep ts ∷ work) s = record s {
+unwound_at p e (finally t ts ∷ work) s = record s {
   world = record (with_temp (t + 1) (instance false (Some e)) (with_number t (pos 4) s.world)) { raised = None };
-  work = onto ts (resume t keep ∷ work);
+  work = onto ts (resume t ∷ work);
 }
-unwound_at p e (resume t keep ∷ work) s = replaces p (number_at s.world t) (name_in (s.world.temps (t + 1))) (with_work work s)
-unwound_at p e (catching keep cs ∷ work) s = catches p keep e cs work s
-unwound_at p e (handling keep i ∷ work) s = freed p i (with_work work s)
+unwound_at p e (resume t ∷ work) s = replaces p (number_at s.world t) (name_in (s.world.temps (t + 1))) (with_work work s)
+unwound_at p e (catching cs ∷ work) s = catches p e cs work s
+unwound_at p e (scope t [] ∷ work) s = ends_made (source_rules p) t (with_work work s)
+unwound_at p e (scope t (u ∷ ts) ∷ work) s = ends_made (source_rules p) t (with_work (scope u ts ∷ work) s)
+unwound_at p e (handling i ∷ work) s = freed p i (with_work work s)
 unwound_at p e (ending (v ∷ vs) result ∷ work) s = ends_place (source_rules p) (all_of (local s.world.depth v)) (with_work (ending vs result ∷ work) s)
 unwound_at p e (ending [] (Some v) ∷ work) s = ends_place (source_rules p) (all_of (local s.world.depth v)) (with_work (ending [] None ∷ work) s)
 unwound_at p e (ending [] None ∷ work) s = with_work work s
 unwound_at p e _ s = leaves_activation p e s.callers s
-
--- temporaries that were made behind it end first
-abbrev pub unwound_to : Program → ℕ → List Task → State → State
-unwound_to p e work s = if nat_lt (keep_at work) (length s.world.made) then ends_last (source_rules p) (with_work work s) else unwound_at p e work s
 
 -- ---- frames on an activation
 
@@ -159,7 +149,7 @@ unwound_frame p e (construction i) rest s = pushed p (destruction i by_construct
 unwound_frame p e frame rest s = unhandled p e s
 
 abbrev pub unwound_by : Program → ℕ → List Frame → State → State
-unwound_by p e [] s = unwound_to p e (stops_at s.work) s
+unwound_by p e [] s = unwound_at p e (stops_at s.work) s
 unwound_by p e (frame ∷ rest) s = unwound_frame p e frame rest s
 
 -- one step of unwinding

@@ -67,8 +67,8 @@ emptied (instance holds n) = instance holds None
 
 -- ---- places
 
--- What holds a value: a global variable; a variable of the activation with so many below it; one of its temporaries, of a type or
--- of no type for one value; an array or an instance, by its name. ("Variables".)
+-- What holds a value: a global variable; a variable of the activation with so many below it; one of its temporaries, by its type and
+-- its number; an array or an instance, by its name. ("Variables".)
 pub data Holder : Type 0 where
   global : (variable : ℕ) → Holder
   local : (depth variable : ℕ) → Holder

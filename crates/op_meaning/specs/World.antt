@@ -21,10 +21,11 @@ pub data Object : Type 0 where
   elements : (of : TypeId) → (count : ℕ) → Object
   fields : (class : ClassId) → (phase : Phase) → Object
 
--- a temporary that was made and has to be ended: one value, or one of a record or array type
-pub data Temporary : Type 0 where
-  one : (n : ℕ) → Temporary
-  whole : (of : TypeId) → (n : ℕ) → Temporary
+-- A temporary that was made and has to be ended: it has a type, and a number among those of its type. It is a holder, as a variable is,
+-- whether it has a string, an array or an interface, or a record with such parts.
+pub record Temporary : Type 0 where
+  pub of : TypeId
+  pub n : ℕ
 
 -- a program ends with a status from 0 to 255
 pub data Ending : Type 0 where
@@ -32,7 +33,7 @@ pub data Ending : Type 0 where
   Ended : (status : ℕ) → Ending
 
 pub record World : Type 0 where
-  -- the temporaries of the activation under way that are one value
+  -- the temporaries of the activation under way that are numbers, or references to instances, which hold nothing
   pub temps : ℕ → Value
   -- those of its temporaries that have to be ended, the last one that was made first
   pub made : List Temporary

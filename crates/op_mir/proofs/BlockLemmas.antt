@@ -1,11 +1,11 @@
 -- Where code stands: blocks one behind another, and the code of items in front of what stands for the work behind them.
-use Rattle.std.proofs.Common.{◌≡◌, ℕ, ◌+◌, List, [], ◌∷◌, ◌++◌, length, Some, inl, inr, refl, sym, ap, ◌∙◌, subst, arith, append_assoc, length-append, ◌<◌}
+use Rattle.std.proofs.Common.{◌≡◌, ℕ, zero, suc, ◌+◌, List, [], ◌∷◌, ◌++◌, length, Some, inl, inr, refl, sym, ap, ◌∙◌, subst, arith, append_assoc, length-append, ◌<◌}
 use Rattle.std.specs.Prelude.{Bool, true, false, slice_get, nat_eq, if◌then◌else◌}
 use Rattle.std.proofs.Math.Seq.{get_or-append_seam}
 use Rattle.std.proofs.lemmas.Bool.{ne_eqb}
 use Rattle.std.proofs.lemmas.Option.{slice_get-get_or}
 use Rattle.op_meaning.specs.Frames.{Program}
-use Rattle.op_meaning.specs.Items.{Items, none, then_do, ◌&◌, Task, item, mark, turn, finally, resume, catching, handling, leaving, ending, due, onto}
+use Rattle.op_meaning.specs.Items.{Items, none, then_do, ◌&◌, Task, item, mark, turn, finally, resume, catching, scope, handling, leaving, ending, due, onto}
 use Rattle.op_mir.specs.Code.{Instr, jump, ret, Exits, is_jump, continued, code, code_item, routine_exits, blocks_of, blocks_in, items_of, program_blocks}
 use Rattle.op_mir.specs.Going.{Has, Comes, At}
 use Rattle.op_mir.specs.Machine.{block_at, block_or}
@@ -51,12 +51,14 @@ at_moved p bs out [] from to f (o, r, c) = (o, r, f _ c)
 at_moved p bs out (item i ∷ work) from to f (behind, pi, s, a) = (behind, pi, record { k = s.k; comes = f _ s.comes; blocks = s.blocks }, a)
 at_moved p bs out (mark l ∷ work) from to f (outer, j, behind, pl, o, c, h, a) = (outer, j, behind, pl, o, f _ c, h, a)
 at_moved p bs out (turn l ∷ work) from to f (j, behind, pl, t, g, a) = (j, behind, pl, record { j = t.j; comes = f _ t.comes; blocks = t.blocks }, g, a)
-at_moved p bs out (finally t keep ts ∷ work) from to f (outer, j, behind, pi, o, c, h, a) = (outer, j, behind, pi, o, f _ c, h, a)
-at_moved p bs out (resume t keep ∷ work) from to f (j, behind, c, h, a) = (j, behind, f _ c, h, a)
+at_moved p bs out (finally t ts ∷ work) from to f (outer, j, behind, pi, o, c, h, a) = (outer, j, behind, pi, o, f _ c, h, a)
+at_moved p bs out (resume t ∷ work) from to f (j, behind, c, h, a) = (j, behind, f _ c, h, a)
 at_moved p bs out (due d ∷ work) from to f (behind, x, c, a) = (behind, x, f _ c, a)
-at_moved p bs out (catching keep cs ∷ work) from to f a = absurd a
-at_moved p bs out (handling keep i ∷ work) from to f a = absurd a
-at_moved p bs out (leaving reason ∷ work) from to f a = absurd a
+at_moved p bs out (catching cs ∷ work) from to f a = absurd a
+at_moved p bs out (handling i ∷ work) from to f a = absurd a
+at_moved p bs out (scope t ts ∷ work) from to f (outer, behind, o, c, a) = (outer, behind, o, f _ c, a)
+at_moved p bs out (leaving zero ∷ work) from to f a = absurd a
+at_moved p bs out (leaving (suc n) ∷ work) from to f (behind, w, c, a) = (behind, w, f _ c, a)
 at_moved p bs out (ending variables result ∷ work) from to f a = absurd a
 
 pub at_continued : (p : Program) (bs : List (List Instr)) (out : Exits) (work : List Task) (k : ℕ) (behind : List Instr) → slice_get bs k ≡ Some behind → At p bs out work behind → At p bs out work (continued k behind)

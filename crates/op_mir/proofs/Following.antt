@@ -1,5 +1,5 @@
 -- A step of the source machine is one or more of managed code, and both begin together.
-use Rattle.std.proofs.Common.{◌≡◌, ℕ, ◌+◌, ◌*◌, ◌≤◌, List, [], ◌∷◌, ◌++◌, length, Option, Some, None, inl, inr, refl, sym, ap, ◌∙◌, subst, arith, append_assoc}
+use Rattle.std.proofs.Common.{◌≡◌, ℕ, zero, suc, ◌+◌, ◌*◌, ◌≤◌, List, [], ◌∷◌, ◌++◌, length, Option, Some, None, inl, inr, refl, sym, ap, ◌∙◌, subst, arith, append_assoc}
 use Rattle.std.specs.Prelude.{true, false, slice_get, nat_eq, if◌then◌else◌}
 use Rattle.std.specs.List.{flat_map, sum_by}
 use Rattle.std.proofs.lemmas.Bool.Decides.{eqb_tells}
@@ -19,7 +19,7 @@ use Rattle.op_meaning.specs.Costs.{numbers, action_bytes, given_bytes, work_byte
 use Rattle.op_meaning.specs.Calls.{source_rules}
 use Rattle.op_meaning.specs.Ending.{closed}
 use Rattle.op_meaning.specs.Frames.{Program, State, Frame, Caller, Pending, walk, destruction, construction, closing, finalize, empty_global}
-use Rattle.op_meaning.specs.Items.{nowhere, act, also, choose, select, loop, body_first, protect, leave, enter, finish, attempt, throw, rethrow, halt, construct, free, Task, item, mark, turn, finally, resume, catching, handling, leaving, ending, due}
+use Rattle.op_meaning.specs.Items.{nowhere, act, also, choose, select, loop, body_first, protect, leave, enter, scoped, attempt, throw, rethrow, halt, construct, free, Task, item, mark, turn, finally, resume, catching, scope, handling, leaving, ending, due}
 use Rattle.op_meaning.specs.Machine.{step, step_by, stepped, acted, done, do_task}
 use Rattle.op_meaning.specs.Start.{start, unit_work, first_memory}
 use Rattle.op_meaning.specs.Shapes.{type_of_variable}
@@ -32,7 +32,7 @@ use Rattle.op_mir.specs.Managed.{managed, CodeFollows, CodeAgrees}
 use Rattle.op_mir.specs.Plain.{IsPlain, Exists, IfExists, ArePlainUnits, IsNameless, ArePlainFrames, ArePlainPending}
 use Rattle.op_mir.proofs.BlockLemmas.{has_from, at_block}
 use Rattle.op_mir.proofs.CallLemmas.{begun_goes, ended_goes, enter_goes, return_goes}
-use Rattle.op_mir.proofs.ItemLemmas.{act_goes, also_goes, choose_goes, select_goes, loop_goes, body_goes, head_goes, turn_goes, protect_goes, finally_goes, leave_item_goes, resume_goes, halt_goes, due_goes}
+use Rattle.op_mir.proofs.ItemLemmas.{act_goes, also_goes, choose_goes, select_goes, loop_goes, body_goes, head_goes, turn_goes, protect_goes, finally_goes, leave_item_goes, resume_goes, leaving_goes, scoped_goes, scope_goes, halt_goes, due_goes}
 use Rattle.op_mir.proofs.PlainLemmas.{no_more, nameless_zero, nameless_first}
 use Rattle.op_mir.proofs.ShownLemmas.{shown_none, looks_never, shows_between}
 use Rattle.op_mir.proofs.StepLemmas.{Here, Reaches, at_most, one_step, price, price_is, silent, under_way}
@@ -86,24 +86,26 @@ task_goes p plain s ms out (item (choose t a b) ∷ w) rest e h at = light p s _
 task_goes p plain s ms out (item (select t a b) ∷ w) rest e h at = light p s _ _ (item (select t a b) ∷ w) (select_goes p s ms t a b out w rest h at)
 task_goes p plain s ms out (item (loop l) ∷ w) rest e h at = light p s _ _ (item (loop l) ∷ w) (loop_goes p s ms l out w rest h at)
 task_goes p plain s ms out (item (body_first l) ∷ w) rest e h at = light p s _ _ (item (body_first l) ∷ w) (body_goes p s ms l out w rest h at)
-task_goes p plain s ms out (item (protect t keep is ts) ∷ w) rest e h at = light p s _ _ (item (protect t keep is ts) ∷ w) (protect_goes p s ms t keep is ts out w rest h at)
+task_goes p plain s ms out (item (protect t is ts) ∷ w) rest e h at = light p s _ _ (item (protect t is ts) ∷ w) (protect_goes p s ms t is ts out w rest h at)
 task_goes p plain s ms out (item (leave n) ∷ w) rest e h at = longer p s _ _ (item (leave n) ∷ w) (leave_item_goes p s ms n out w rest h at)
 task_goes p plain s ms out (item (enter r given receiver) ∷ w) rest e h at = heavy p s _ _ (item (enter r given receiver) ∷ w) (sum_by (given_bytes p.core) given) (omega arith) (enter_goes p plain s ms r given receiver out w rest h at)
 task_goes p plain s ms out (item (halt t) ∷ w) rest e h at = light p s _ _ (item (halt t) ∷ w) (halt_goes p s ms t out w rest h at)
-task_goes p plain s ms out (item (finish keep) ∷ w) rest e h (behind, pi, st, at) = absurd pi
-task_goes p plain s ms out (item (attempt keep is cs) ∷ w) rest e h (behind, pi, st, at) = absurd pi
+task_goes p plain s ms out (item (scoped t ts is) ∷ w) rest e h at = light p s _ _ (item (scoped t ts is) ∷ w) (scoped_goes p s ms t ts is out w rest h at)
+task_goes p plain s ms out (item (attempt is cs) ∷ w) rest e h (behind, pi, st, at) = absurd pi
 task_goes p plain s ms out (item (throw t) ∷ w) rest e h (behind, pi, st, at) = absurd pi
 task_goes p plain s ms out (item rethrow ∷ w) rest e h (behind, pi, st, at) = absurd pi
 task_goes p plain s ms out (item (construct c r given to) ∷ w) rest e h (behind, pi, st, at) = absurd pi
 task_goes p plain s ms out (item (free takes_nil t) ∷ w) rest e h (behind, pi, st, at) = absurd pi
 task_goes p plain s ms out (mark l ∷ w) rest e h (outer, k, behind, pl, o, comes, hs, at) = light p s _ _ (mark l ∷ w) (head_goes p s ms l outer w behind rest k h pl comes hs at)
 task_goes p plain s ms out (turn l ∷ w) rest e h at = light p s _ _ (turn l ∷ w) (turn_goes p s ms l out w rest h at)
-task_goes p plain s ms out (finally t keep ts ∷ w) rest e h at = light p s _ _ (finally t keep ts ∷ w) (finally_goes p s ms t keep ts out w rest h at)
-task_goes p plain s ms out (resume t keep ∷ w) rest e h at = longer p s _ _ (resume t keep ∷ w) (resume_goes p s ms t keep out w rest h at)
+task_goes p plain s ms out (finally t ts ∷ w) rest e h at = light p s _ _ (finally t ts ∷ w) (finally_goes p s ms t ts out w rest h at)
+task_goes p plain s ms out (resume t ∷ w) rest e h at = longer p s _ _ (resume t ∷ w) (resume_goes p s ms t out w rest h at)
 task_goes p plain s ms out (due f ∷ w) rest e h at = light p s _ _ (due f ∷ w) (due_goes p s ms f out w rest h at)
-task_goes p plain s ms out (catching keep cs ∷ w) rest e h at = absurd at
-task_goes p plain s ms out (handling keep i ∷ w) rest e h at = absurd at
-task_goes p plain s ms out (leaving reason ∷ w) rest e h at = absurd at
+task_goes p plain s ms out (catching cs ∷ w) rest e h at = absurd at
+task_goes p plain s ms out (handling i ∷ w) rest e h at = absurd at
+task_goes p plain s ms out (scope t ts ∷ w) rest e h at = light p s _ _ (scope t ts ∷ w) (scope_goes p s ms t ts out w rest h at)
+task_goes p plain s ms out (leaving zero ∷ w) rest e h at = absurd at
+task_goes p plain s ms out (leaving (suc n) ∷ w) rest e h at = longer p s _ _ (leaving (suc n) ∷ w) (leaving_goes p s ms n out w rest h at)
 task_goes p plain s ms out (ending vs result ∷ w) rest e h at = absurd at
 
 -- ---- the closing

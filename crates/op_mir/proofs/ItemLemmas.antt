@@ -5,19 +5,21 @@ use Rattle.std.specs.Int.{int_wrap}
 use Rattle.std.specs.List.{list_any}
 use Rattle.op_core.specs.declared.ids.RoutineId.{RoutineId}
 use Rattle.op_meaning.specs.Actions.{Action, constant, perform}
-use Rattle.op_meaning.specs.Frames.{Program, State, closing, with_work, with_frames}
-use Rattle.op_meaning.specs.Items.{act, also, choose, select, loop, body_first, protect, leave, halt, finish, Items, Turns, turns, head_of, body_of, Cases, no_cases, cases, Task, item, mark, turn, finally, resume, catching, handling, leaving, ending, due, onto}
-use Rattle.op_meaning.specs.Leaving.{left, resumed, finishing, name_in}
-use Rattle.op_meaning.specs.Machine.{do_item, do_task, turned, another_turn, selected, label_has, low_eight}
+use Rattle.op_meaning.specs.Calls.{source_rules}
+use Rattle.op_meaning.specs.Frames.{Program, StateOver, Rules, State, closing, with_work, with_frames}
+use Rattle.op_meaning.specs.Items.{act, also, choose, select, loop, body_first, protect, leave, scoped, halt, Items, Turns, turns, head_of, body_of, Cases, no_cases, cases, Task, item, mark, turn, finally, resume, catching, scope, handling, leaving, ending, due, onto}
+use Rattle.op_meaning.specs.Leaving.{left, resumed, name_in}
+use Rattle.op_meaning.specs.Losing.{ends_among, ends_made}
+use Rattle.op_meaning.specs.Machine.{do_item, do_task, scope_on, turned, another_turn, selected, label_has, low_eight}
 use Rattle.op_meaning.specs.Numbers.{is_true, wrapped}
 use Rattle.op_meaning.specs.Unwinding.{closes}
 use Rattle.op_meaning.specs.World.{World, Temporary, number_at, with_number}
-use Rattle.op_mir.specs.Code.{Instr, do_act, jump, when, unless, switch, dispatch, make_due, stop, Exits, loop_exits, finally_exits, routine_exits, continued, branch_if, branch_unless, code, code_cases, to_body, between_code, blocks_in}
+use Rattle.op_mir.specs.Code.{Instr, do_act, jump, when, unless, switch, dispatch, make_due, open_temporaries, end_temporary, stop, Exits, loop_exits, finally_exits, scope_exits, ends, routine_exits, continued, branch_if, branch_unless, code, code_cases, to_body, between_code, blocks_in}
 use Rattle.op_mir.specs.Going.{Has, Comes, LoopStands, FinallyStands, At, image, Goes}
-use Rattle.op_mir.specs.Machine.{code_of, MirState, MirCaller, block_at, block_or, go_to, go_if, arm_for, dispatched, moved, execute}
+use Rattle.op_mir.specs.Machine.{code_of, code_rules, MirState, MirCaller, block_at, block_or, go_to, go_if, arm_for, dispatched, moved, execute}
 use Rattle.op_mir.specs.Plain.{IsPlain, ArePlain, ArePlainTurns, ArePlainCases, IsWay, IsPlainWorld, ArePlainFrames}
 use Rattle.op_mir.proofs.BlockLemmas.{has_front, has_back, at_continued, at_block, at_onto}
-use Rattle.op_mir.proofs.PlainLemmas.{plain_perform, plain_number, name_in_nameless, below_none}
+use Rattle.op_mir.proofs.PlainLemmas.{plain_perform, plain_number, name_in_nameless}
 use Rattle.op_mir.proofs.ShownLemmas.{shown_none}
 use Rattle.op_mir.proofs.StepLemmas.{Reaches, Here, Steps, one, quiet, silent, before, at_most, come, advance, goes_at, goes_with, if_goes}
 
@@ -172,17 +174,17 @@ unfolding int_wrap
 none_fits = refl
 
 -- in front of a finally part
-finally_stands : (p : Program) (bs : List (List Instr)) (out : Exits) (t keep : ℕ) (items : Items) (work : List Task) (k : ℕ) (behind : List Instr) → ArePlain p items → FinallyStands bs out t (code out items (k + 4) (dispatch t k ∷ behind)) k → At p bs out work behind → At p bs out (onto items (resume t keep ∷ work)) (block_at bs k)
-finally_stands p bs out t keep items work k behind plain h at =
+finally_stands : (p : Program) (bs : List (List Instr)) (out : Exits) (t : ℕ) (items : Items) (work : List Task) (k : ℕ) (behind : List Instr) → ArePlain p items → FinallyStands bs out t (code out items (k + 4) (dispatch t k ∷ behind)) k → At p bs out work behind → At p bs out (onto items (resume t ∷ work)) (block_at bs k)
+finally_stands p bs out t items work k behind plain h at =
     let m = code out items (k + 4) (dispatch t k ∷ behind) in
     let e4 : k + 1 + 1 + 1 + 1 ≡ k + 4 = omega arith in
     let ways : Has bs (k + 1) (out 1 ∷ out 2 ∷ out 3 ∷ []) = (h.blocks.1.0, (h.blocks.1.1.0, (h.blocks.1.1.1.0, tt))) in
-    let part = at_onto p bs out items (resume t keep ∷ work) (k + 4) (dispatch t k ∷ behind) plain (subst (λ y. Has bs y m.blocks) e4 h.blocks.1.1.1.1) (k, behind, inl refl, ways, at) in
-    at_block p bs out (onto items (resume t keep ∷ work)) k m.now h.blocks.0 part
+    let part = at_onto p bs out items (resume t ∷ work) (k + 4) (dispatch t k ∷ behind) plain (subst (λ y. Has bs y m.blocks) e4 h.blocks.1.1.1.1) (k, behind, inl refl, ways, at) in
+    at_block p bs out (onto items (resume t ∷ work)) k m.now h.blocks.0 part
 
-pub protect_goes : (p : Program) (s : State) (ms : List MirCaller) (t keep : ℕ) (items ts : Items) (out : Exits) (work : List Task) (rest : List Instr) → Here p s ms → At p (blocks_in p s.routine) out (item (protect t keep items ts) ∷ work) rest → Reaches p 1 0 s (do_item p (protect t keep items ts) work s) (image s rest ms)
+pub protect_goes : (p : Program) (s : State) (ms : List MirCaller) (t : ℕ) (items ts : Items) (out : Exits) (work : List Task) (rest : List Instr) → Here p s ms → At p (blocks_in p s.routine) out (item (protect t items ts) ∷ work) rest → Reaches p 1 0 s (do_item p (protect t items ts) work s) (image s rest ms)
 unfolding do_item execute perform
-protect_goes p s ms t keep items ts out work rest h (behind, pi, st, at) =
+protect_goes p s ms t items ts out work rest h (behind, pi, st, at) =
     let bs = blocks_in p s.routine in
     let k = st.k in
     let b = code out ts (k + 4) (dispatch t k ∷ behind) in
@@ -191,25 +193,19 @@ protect_goes p s ms t keep items ts out work rest h (behind, pi, st, at) =
     let hs = st.blocks in
     let all = subst (λ n. Has bs n (b.blocks ++ a.blocks)) e4 hs.1.1.1.1 in
     let hb = subst (λ n. Has bs n b.blocks) (sym e4) (has_front bs (k + 4) b.blocks a.blocks all) in
-    let end : At p bs (finally_exits t k) (finally t keep ts ∷ work) (jump k ∷ []) = (out, k, behind, pi.1, refl, inl refl, record { blocks = (hs.0, (hs.1.0, (hs.1.1.0, (hs.1.1.1.0, hb)))) }, at) in
-    let inner = at_onto p bs (finally_exits t k) items (finally t keep ts ∷ work) (k + 4 + length b.blocks) (jump k ∷ []) pi.0 (has_back bs (k + 4) b.blocks a.blocks all) end in
-    subst (λ z. Reaches p 1 0 s (record s { world = with_number t z s.world; work = onto items (finally t keep ts ∷ work) }) (image s rest ms)) none_fits
+    let end : At p bs (finally_exits t k) (finally t ts ∷ work) (jump k ∷ []) = (out, k, behind, pi.1, refl, inl refl, record { blocks = (hs.0, (hs.1.0, (hs.1.1.0, (hs.1.1.1.0, hb)))) }, at) in
+    let inner = at_onto p bs (finally_exits t k) items (finally t ts ∷ work) (k + 4 + length b.blocks) (jump k ∷ []) pi.0 (has_back bs (k + 4) b.blocks a.blocks all) end in
+    subst (λ z. Reaches p 1 0 s (record s { world = with_number t z s.world; work = onto items (finally t ts ∷ work) }) (image s rest ms)) none_fits
     (advance p s _ ms rest (do_act (constant t (pos 0)) None) a.now h st.comes
-    (goes_at p s ms h (with_number t (wrapped (pos 0)) s.world) (plain_number t (wrapped (pos 0)) s.world h.world) (onto items (finally t keep ts ∷ work)) (finally_exits t k) a.now inner))
+    (goes_at p s ms h (with_number t (wrapped (pos 0)) s.world) (plain_number t (wrapped (pos 0)) s.world h.world) (onto items (finally t ts ∷ work)) (finally_exits t k) a.now inner))
 
-pub finally_goes : (p : Program) (s : State) (ms : List MirCaller) (t keep : ℕ) (ts : Items) (out : Exits) (work : List Task) (rest : List Instr) → Here p s ms → At p (blocks_in p s.routine) out (finally t keep ts ∷ work) rest → Reaches p 1 0 s (do_task p (finally t keep ts) work s) (image s rest ms)
+pub finally_goes : (p : Program) (s : State) (ms : List MirCaller) (t : ℕ) (ts : Items) (out : Exits) (work : List Task) (rest : List Instr) → Here p s ms → At p (blocks_in p s.routine) out (finally t ts ∷ work) rest → Reaches p 1 0 s (do_task p (finally t ts) work s) (image s rest ms)
 unfolding do_task execute
-finally_goes p s ms t keep ts out work rest h (outer, k, behind, pi, o, comes, hs, at) =
+finally_goes p s ms t ts out work rest h (outer, k, behind, pi, o, comes, hs, at) =
     let bs = blocks_in p s.routine in
-    advance p s _ ms rest (jump k) [] h comes (goes_with p s ms h (onto ts (resume t keep ∷ work)) outer (block_at bs k) (finally_stands p bs outer t keep ts work k behind pi hs at))
+    advance p s _ ms rest (jump k) [] h comes (goes_with p s ms h (onto ts (resume t ∷ work)) outer (block_at bs k) (finally_stands p bs outer t ts work k behind pi hs at))
 
 -- ---- Exit, Break and Continue
-
--- with no temporary to end nothing is put in front
-finishes_none : (keep : ℕ) (work : List Task) (w : World) → w.made ≡ [] → finishing keep work w ≡ work
-finishes_none keep work w e =
-    ap (λ (made : List Temporary). if nat_lt keep (length made) then item (finish keep) ∷ work else work) e
-    ∙ ap (λ b. if b then item (finish keep) ∷ work else work) (below_none keep)
 
 -- the exits lead to where the next finally part, or what is left, stands
 pub leave_goes : (p : Program) (s : State) (ms : List MirCaller) (n : ℕ) (out : Exits) (work : List Task) (rest : List Instr) → IsWay n → Here p s ms → At p (blocks_in p s.routine) out work rest → Reaches p 1 0 s (left (suc n) work s) (image s (out (suc n)) ms)
@@ -217,31 +213,27 @@ unfolding execute perform
 leave_goes p s ms n out [] rest way h (o, r, comes) =
     let bs = blocks_in p s.routine in
     let end : At p bs routine_exits [] (block_at bs 1) = (refl, r, inl (ap block_or r)) in
-    let work = finishes_none 0 [] s.world h.world.made in
     let there = advance p s (with_work [] s) ms (jump 1 ∷ []) (jump 1) [] h (inl refl) (goes_with p s ms h [] routine_exits (block_at bs 1) end) in
-    subst (λ x. Reaches p 1 0 s (left (suc n) [] s) (image s (x (suc n)) ms)) (sym o)
-    (subst (λ v. Reaches p 1 0 s (with_work v s) (image s (jump 1 ∷ []) ms)) (sym work) there)
+    subst (λ x. Reaches p 1 0 s (left (suc n) [] s) (image s (x (suc n)) ms)) (sym o) there
 leave_goes p s ms n out (item i ∷ work) rest way h (behind, pi, st, at) = leave_goes p s ms n out work behind way h at
 leave_goes p s ms n out (turn l ∷ work) rest way h (k, behind, pi, t, stands, at) = leave_goes p s ms n out work behind way h at
-leave_goes p s ms n out (resume t keep ∷ work) rest way h (k, behind, x, hs, at) = leave_goes p s ms n out work behind way h at
+leave_goes p s ms n out (resume t ∷ work) rest way h (k, behind, x, hs, at) = leave_goes p s ms n out work behind way h at
 leave_goes p s ms n out (due f ∷ work) rest way h (behind, x, c, at) = leave_goes p s ms n out work behind way h at
-leave_goes p s ms n out (finally t keep ts ∷ work) rest way h (outer, k, behind, pi, o, x, hs, at) =
+leave_goes p s ms n out (finally t ts ∷ work) rest way h (outer, k, behind, pi, o, x, hs, at) =
     let bs = blocks_in p s.routine in
     let z = wrapped (pos (suc n)) in
     let w = with_number t z s.world in
     let s' = record s { world = w } in
-    let later = onto ts (resume t keep ∷ work) in
+    let later = onto ts (resume t ∷ work) in
     let u = record s { world = w; work = later } in
     let h' : Here p s' ms = record { running = h.running; world = plain_number t z s.world h.world; frames = h.frames; callers = h.callers; pending = h.pending } in
-    let there = finally_stands p bs outer t keep ts work k behind pi hs at in
+    let there = finally_stands p bs outer t ts work k behind pi hs at in
     let second : Reaches p 0 0 s' u (image s' (jump k ∷ []) ms) = one p s' u ms (jump k) [] _ h' refl (goes_at p s' ms h' w h'.world later outer (block_at bs k) there) in
     let first : Steps p (image s (do_act (constant t (pos (suc n))) None ∷ jump k ∷ []) ms) (image s' (jump k ∷ []) ms) 1 [] (silent p s 1) = quiet p s s' ms (do_act (constant t (pos (suc n))) None) (jump k ∷ []) (jump k ∷ []) w.temps h refl refl refl in
     let none = shown_none p.core w w.temps ∙ sym (shown_none p.core s.world w.temps) in
     let reached : Reaches p 1 0 s u (image s (do_act (constant t (pos (suc n))) None ∷ jump k ∷ []) ms) = before p 0 0 1 s s' u (image s (do_act (constant t (pos (suc n))) None ∷ jump k ∷ []) ms) (image s' (jump k ∷ []) ms) first none refl refl second in
-    let same : u ≡ left (suc n) (finally t keep ts ∷ work) s =
-    ap (λ y. record s { world = with_number t y s.world; work = later }) (way_fits n way)
-    ∙ ap (λ v. record s { world = with_number t (pos (suc n)) s.world; work = v }) (sym (finishes_none keep later s.world h.world.made)) in
-    subst (λ y. Reaches p 1 0 s (left (suc n) (finally t keep ts ∷ work) s) (image s (y (suc n)) ms)) (sym o)
+    let same : u ≡ left (suc n) (finally t ts ∷ work) s = ap (λ y. record s { world = with_number t y s.world; work = later }) (way_fits n way) in
+    subst (λ y. Reaches p 1 0 s (left (suc n) (finally t ts ∷ work) s) (image s (y (suc n)) ms)) (sym o)
     (subst (λ v. Reaches p 1 0 s v (image s (do_act (constant t (pos (suc n))) None ∷ jump k ∷ []) ms)) same reached)
 leave_goes p s ms zero out (mark l ∷ work) rest way h (outer, k, behind, pi, o, x, hs, at) =
     subst (λ y. Reaches p 1 0 s (left 1 (mark l ∷ work) s) (image s (y 1) ms)) (sym o) (leave_goes p s ms 0 outer work behind way h at)
@@ -252,9 +244,16 @@ leave_goes p s ms (suc zero) out (mark (turns head t ends between body) ∷ work
 leave_goes p s ms (suc (suc zero)) out (mark l ∷ work) rest way h (outer, k, behind, pi, o, x, hs, at) =
     subst (λ y. Reaches p 1 0 s (left 3 (mark l ∷ work) s) (image s (y 3) ms)) (sym o) (head_goes p s ms l outer work behind (jump (suc k) ∷ []) k h pi (inl refl) hs at)
 leave_goes p s ms (suc (suc (suc n))) out (mark l ∷ work) rest way h (outer, k, behind, pi, o, x, hs, at) = absurd way
-leave_goes p s ms n out (catching keep cs ∷ work) rest way h at = absurd at
-leave_goes p s ms n out (handling keep i ∷ work) rest way h at = absurd at
-leave_goes p s ms n out (leaving reason ∷ work) rest way h at = absurd at
+leave_goes p s ms n out (catching cs ∷ work) rest way h at = absurd at
+leave_goes p s ms n out (handling i ∷ work) rest way h at = absurd at
+leave_goes p s ms n out (scope t ts ∷ work) rest way h (outer, behind, o, c, at) =
+    let later = scope t ts ∷ leaving (suc n) ∷ work in
+    let code = ends (t ∷ ts) (outer (suc n)) in
+    let there : Reaches p 0 0 s (with_work later s) (image s (open_temporaries [] ∷ code) ms) =
+    one p s (with_work later s) ms (open_temporaries []) code _ h refl (goes_with p s ms h later (scope_exits outer (t ∷ ts)) code (outer, outer (suc n), refl, inl refl, (behind, way, inl refl, at))) in
+    subst (λ x. Reaches p 1 0 s (with_work later s) (image s (x (suc n)) ms)) (sym o) (at_most p 0 1 0 0 s (with_work later s) _ (omega arith) (omega arith) there)
+leave_goes p s ms n out (leaving zero ∷ work) rest way h at = absurd at
+leave_goes p s ms n out (leaving (suc m) ∷ work) rest way h (behind, w, c, at) = leave_goes p s ms n out work behind way h at
 leave_goes p s ms n out (ending variables result ∷ work) rest way h at = absurd at
 
 pub leave_item_goes : (p : Program) (s : State) (ms : List MirCaller) (n : ℕ) (out : Exits) (work : List Task) (rest : List Instr) → Here p s ms → At p (blocks_in p s.routine) out (item (leave n) ∷ work) rest → Reaches p 3 0 s (do_item p (leave n) work s) (image s rest ms)
@@ -262,11 +261,45 @@ unfolding do_item
 leave_item_goes p s ms n out work rest h (behind, pi, st, at) =
     at_most p (1 + 1) 3 0 0 s (left (suc n) work s) (image s rest ms) (omega arith) (omega arith) (come p 1 0 s (left (suc n) work s) ms rest (out (suc n)) h st.comes (leave_goes p s ms n out work behind pi h at))
 
+-- what was left ends first, and then it is left further
+pub leaving_goes : (p : Program) (s : State) (ms : List MirCaller) (n : ℕ) (out : Exits) (work : List Task) (rest : List Instr) → Here p s ms → At p (blocks_in p s.routine) out (leaving (suc n) ∷ work) rest → Reaches p 3 0 s (do_task p (leaving (suc n)) work s) (image s rest ms)
+unfolding do_task
+leaving_goes p s ms n out work rest h (behind, way, comes, at) =
+    at_most p (1 + 1) 3 0 0 s (left (suc n) work s) (image s rest ms) (omega arith) (omega arith) (come p 1 0 s (left (suc n) work s) ms rest (out (suc n)) h comes (leave_goes p s ms n out work behind way h at))
+
+-- ---- temporaries that end
+
+pub scoped_goes : (p : Program) (s : State) (ms : List MirCaller) (t : Temporary) (ts : List Temporary) (items : Items) (out : Exits) (work : List Task) (rest : List Instr) → Here p s ms → At p (blocks_in p s.routine) out (item (scoped t ts items) ∷ work) rest → Reaches p 1 0 s (do_item p (scoped t ts items) work s) (image s rest ms)
+unfolding do_item execute
+scoped_goes p s ms t ts items out work rest h (behind, pi, st, at) =
+    let outer = scope_exits out (t ∷ ts) in
+    let a = code outer items st.k (ends (t ∷ ts) behind) in
+    advance p s _ ms rest (open_temporaries (t ∷ ts)) a.now h st.comes
+    (goes_with p s ms h (onto items (scope t ts ∷ work)) outer a.now
+    (at_onto p (blocks_in p s.routine) outer items (scope t ts ∷ work) st.k (ends (t ∷ ts) behind) pi st.blocks (out, behind, refl, inl refl, at)))
+
+-- what was not made stays as it is
+ends_none : {W K : Type 0} (rules : Rules W K) (t : Temporary) (s : StateOver W K) → s.world.made ≡ [] → ends_made rules t s ≡ s
+ends_none rules t s e = ap (λ made. ends_among rules t made s) e
+
+pub scope_goes : (p : Program) (s : State) (ms : List MirCaller) (t : Temporary) (ts : List Temporary) (out : Exits) (work : List Task) (rest : List Instr) → Here p s ms → At p (blocks_in p s.routine) out (scope t ts ∷ work) rest → Reaches p 1 0 s (do_task p (scope t ts) work s) (image s rest ms)
+unfolding do_task execute
+scope_goes p s ms t ts out work rest h (outer, behind, o, comes, at) =
+    let u = with_work (scope_on ts work) s in
+    let same : ends_made (source_rules p) t u ≡ u = ends_none (source_rules p) t u h.world.made in
+    let does = ends_none (code_rules (code_of p)) t (image s (ends ts behind) ms) h.world.made in
+    subst (λ x. Reaches p 1 0 s x (image s rest ms)) (sym same)
+    (come p 0 0 s u ms rest (end_temporary t ∷ ends ts behind) h comes (one p s u ms (end_temporary t) (ends ts behind) _ h does (goes_on ts)))
+  where
+    goes_on : (vs : List Temporary) → Goes p (with_work (scope_on vs work) s) (image s (ends vs behind) ms)
+    goes_on [] = goes_with p s ms h work outer behind at
+    goes_on (v ∷ vs) = goes_with p s ms h (scope v vs ∷ work) (scope_exits outer (v ∷ vs)) (ends (v ∷ vs) behind) (outer, behind, refl, inl refl, at)
+
 -- ---- behind a finally part
 
-pub resume_goes : (p : Program) (s : State) (ms : List MirCaller) (t keep : ℕ) (out : Exits) (work : List Task) (rest : List Instr) → Here p s ms → At p (blocks_in p s.routine) out (resume t keep ∷ work) rest → Reaches p 3 0 s (do_task p (resume t keep) work s) (image s rest ms)
+pub resume_goes : (p : Program) (s : State) (ms : List MirCaller) (t : ℕ) (out : Exits) (work : List Task) (rest : List Instr) → Here p s ms → At p (blocks_in p s.routine) out (resume t ∷ work) rest → Reaches p 3 0 s (do_task p (resume t) work s) (image s rest ms)
 unfolding do_task execute
-resume_goes p s ms t keep out work rest h (k, behind, comes, hs, at) = by (number_at s.world t) refl
+resume_goes p s ms t out work rest h (k, behind, comes, hs, at) = by (number_at s.world t) refl
   where
     act_is : (z : ℤ) → number_at s.world t ≡ z → execute (code_of p) (dispatch t k) (image s behind ms) ≡ dispatched (code_of p) z t k (image s behind ms)
     act_is z e = ap (λ z. dispatched (code_of p) z t k (image s behind ms)) e

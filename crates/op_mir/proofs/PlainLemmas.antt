@@ -234,9 +234,3 @@ nameless_cleared core r d memory h (object n) = h (object n)
 
 pub plain_entered : (p : Program) (r : ℕ) (xs : List Handed) (w : World) → AreNameless xs → IsPlainWorld w → IsPlainWorld (entered p r xs w)
 plain_entered p r xs w hxs h = plain_given (suc w.depth) 0 xs _ hxs (record { raised = h.raised; made = refl; temps = λ t. tt; memory = nameless_cleared p.core r (suc w.depth) w.memory h.memory })
-
--- ---- what has to be ended: nothing
-
--- with no temporary to end nothing is put in front of the work
-pub below_none : (k : ℕ) → nat_lt k 0 ≡ false
-below_none k = le-ltb k 0 (omega arith)

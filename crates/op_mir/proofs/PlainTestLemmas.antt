@@ -16,7 +16,7 @@ use Rattle.op_core.specs.declared.routine.Variable.{Variable}
 use Rattle.op_meaning.specs.Calls.{env_of}
 use Rattle.op_meaning.specs.Expressions.{first_here}
 use Rattle.op_meaning.specs.Frames.{Program, empty_global, program_of}
-use Rattle.op_meaning.specs.Items.{Item, act, also, choose, select, loop, body_first, protect, leave, enter, finish, attempt, throw, rethrow, halt, construct, free, Items, none, then_do, Turns, turns, Cases, no_cases, cases}
+use Rattle.op_meaning.specs.Items.{Item, act, also, choose, select, loop, body_first, protect, leave, enter, scoped, attempt, throw, rethrow, halt, construct, free, Items, none, then_do, Turns, turns, Cases, no_cases, cases}
 use Rattle.op_meaning.specs.Shapes.{is_managed, no_type, variables_of}
 use Rattle.op_meaning.specs.Start.{first_pending}
 use Rattle.op_meaning.specs.Statements.{first_items, work_of_all}
@@ -47,12 +47,12 @@ module _ (p : Program) where
     plain_item (select t cs otherwise) is = (plain_cases cs (first_so _ _ is), plain_items otherwise (second_so _ _ is))
     plain_item (loop l) is = plain_turns l is
     plain_item (body_first l) is = plain_turns l is
-    plain_item (protect t keep items finalization) is = (plain_items items (first_so _ _ is), plain_items finalization (second_so _ _ is))
+    plain_item (protect t items finalization) is = (plain_items items (first_so _ _ is), plain_items finalization (second_so _ _ is))
     plain_item (leave what) is = way what is
     plain_item (enter r given receiver) is = grind (arith, nat_tests)
     plain_item (halt t) is = tt
-    plain_item (finish keep) is = absurd cc
-    plain_item (attempt keep items cs) is = absurd cc
+    plain_item (scoped t ts items) is = plain_items items is
+    plain_item (attempt items cs) is = absurd cc
     plain_item (throw t) is = absurd cc
     plain_item rethrow is = absurd cc
     plain_item (construct c r given to) is = absurd cc

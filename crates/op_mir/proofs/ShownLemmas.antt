@@ -7,12 +7,12 @@ use Rattle.op_core.specs.declared.program.Core.{Core}
 use Rattle.op_meaning.specs.Demands.{nothing, block_of, is_standing}
 use Rattle.op_meaning.specs.Frames.{Program, State, Frame, Caller, Pending}
 use Rattle.op_meaning.specs.Holding.{each}
-use Rattle.op_meaning.specs.Items.{act, also, choose, select, loop, body_first, protect, leave, enter, finish, attempt, throw, rethrow, halt, construct, free, Task, item, mark, turn, finally, resume, catching, handling, leaving, ending, due}
+use Rattle.op_meaning.specs.Items.{act, also, choose, select, loop, body_first, protect, leave, enter, scoped, attempt, throw, rethrow, halt, construct, free, Task, item, mark, turn, finally, resume, catching, scope, handling, leaving, ending, due}
 use Rattle.op_meaning.specs.Machine.{step}
 use Rattle.op_meaning.specs.Source.{Taken, Written, Reported, LetGo, shows, behind, taken}
 use Rattle.op_meaning.specs.Values.{Value}
 use Rattle.op_meaning.specs.World.{World}
-use Rattle.op_mir.specs.Code.{Instr, do_act, do_call, jump, when, unless, switch, dispatch, make_due, stop, ret}
+use Rattle.op_mir.specs.Code.{Instr, do_act, do_call, jump, when, unless, switch, dispatch, make_due, open_temporaries, end_temporary, stop, ret}
 use Rattle.op_mir.specs.Machine.{shown_between, asked, where_some, looks_by, looks_on}
 
 each_none : (f : ℕ → List ℕ) → ((k : ℕ) → f k ≡ []) → (n : ℕ) → each n f ≡ []
@@ -48,6 +48,8 @@ looks_by_never (unless t k ∷ rest) = refl
 looks_by_never (switch t arms ∷ rest) = refl
 looks_by_never (dispatch t k ∷ rest) = refl
 looks_by_never (make_due f ∷ rest) = refl
+looks_by_never (open_temporaries ts ∷ rest) = refl
+looks_by_never (end_temporary t ∷ rest) = refl
 looks_by_never (stop t ∷ rest) = refl
 looks_by_never (ret ∷ rest) = refl
 
@@ -67,11 +69,12 @@ shows_at p w now callers pending charged (item (choose t a b) ∷ work) [] = ref
 shows_at p w now callers pending charged (item (select t a b) ∷ work) [] = refl
 shows_at p w now callers pending charged (item (loop l) ∷ work) [] = refl
 shows_at p w now callers pending charged (item (body_first l) ∷ work) [] = refl
-shows_at p w now callers pending charged (item (protect t keep is ts) ∷ work) [] = refl
+shows_at p w now callers pending charged (item (protect t is ts) ∷ work) [] = refl
 shows_at p w now callers pending charged (item (leave n) ∷ work) [] = refl
 shows_at p w now callers pending charged (item (enter r given receiver) ∷ work) [] = refl
-shows_at p w now callers pending charged (item (finish keep) ∷ work) [] = refl
-shows_at p w now callers pending charged (item (attempt keep is cs) ∷ work) [] = refl
+shows_at p w now callers pending charged (item (scoped t ts is) ∷ work) [] = refl
+shows_at p w now callers pending charged (scope t ts ∷ work) [] = refl
+shows_at p w now callers pending charged (item (attempt is cs) ∷ work) [] = refl
 shows_at p w now callers pending charged (item (throw t) ∷ work) [] = refl
 shows_at p w now callers pending charged (item rethrow ∷ work) [] = refl
 shows_at p w now callers pending charged (item (halt t) ∷ work) [] = refl
@@ -79,10 +82,10 @@ shows_at p w now callers pending charged (item (construct c r given to) ∷ work
 shows_at p w now callers pending charged (item (free takes_nil t) ∷ work) [] = refl
 shows_at p w now callers pending charged (mark l ∷ work) [] = refl
 shows_at p w now callers pending charged (turn l ∷ work) [] = refl
-shows_at p w now callers pending charged (finally t keep ts ∷ work) [] = refl
-shows_at p w now callers pending charged (resume t keep ∷ work) [] = refl
-shows_at p w now callers pending charged (catching keep cs ∷ work) [] = refl
-shows_at p w now callers pending charged (handling keep i ∷ work) [] = refl
+shows_at p w now callers pending charged (finally t ts ∷ work) [] = refl
+shows_at p w now callers pending charged (resume t ∷ work) [] = refl
+shows_at p w now callers pending charged (catching cs ∷ work) [] = refl
+shows_at p w now callers pending charged (handling i ∷ work) [] = refl
 shows_at p w now callers pending charged (leaving reason ∷ work) [] = refl
 shows_at p w now callers pending charged (ending vs result ∷ work) [] = refl
 shows_at p w now callers pending charged (due f ∷ work) [] = refl

@@ -9,9 +9,10 @@ use Rattle.op_meaning.specs.Actions.{Action, constant}
 use Rattle.op_meaning.specs.Calls.{env_of}
 use Rattle.op_meaning.specs.Expressions.{first_here}
 use Rattle.op_meaning.specs.Frames.{Program}
-use Rattle.op_meaning.specs.Items.{Given, Receiver, nowhere, Item, act, also, choose, select, loop, body_first, protect, leave, enter, finish, attempt, throw, rethrow, halt, construct, free, Items, none, then_do, ◌&◌, Turns, turns, Cases, no_cases, cases}
+use Rattle.op_meaning.specs.Items.{Given, Receiver, nowhere, Item, act, also, choose, select, loop, body_first, protect, leave, enter, scoped, attempt, throw, rethrow, halt, construct, free, Items, none, then_do, ◌&◌, Turns, turns, Cases, no_cases, cases}
 use Rattle.op_meaning.specs.Shapes.{variables_of}
 use Rattle.op_meaning.specs.Statements.{work_of_all, first_items}
+use Rattle.op_meaning.specs.World.{Temporary}
 
 -- ---- instructions
 
@@ -36,6 +37,9 @@ pub data Instr : Type 0 where
   dispatch : (temp block : ℕ) → Instr
   -- the finalization of a unit becomes due
   make_due : (finalization : RoutineId) → Instr
+  -- temporaries that are made behind it end in this order; a temporary ends, if it was made
+  open_temporaries : (temporaries : List Temporary) → Instr
+  end_temporary : (temporary : Temporary) → Instr
   -- the program ends with the status in the temporary
   stop : (temp : ℕ) → Instr
   ret : Instr
@@ -68,6 +72,15 @@ loop_exits out k reason = out reason
 abbrev pub finally_exits : ℕ → ℕ → Exits
 finally_exits t k reason = do_act (constant t (pos reason)) None ∷ jump k ∷ []
 
+-- temporaries end in front of other code
+abbrev pub ends : List Temporary → List Instr → List Instr
+ends [] behind = behind
+ends (t ∷ ts) behind = end_temporary t ∷ ends ts behind
+
+-- they end in front of what leaves them; none is open any more that could be made
+abbrev pub scope_exits : Exits → List Temporary → Exits
+scope_exits out ts reason = open_temporaries [] ∷ ends ts (out reason)
+
 -- where the truth of a temporary ends a loop, and where it skips the second operand of `or`
 abbrev pub branch_if : Bool → ℕ → ℕ → Instr
 branch_if true t k = when t k
@@ -80,8 +93,8 @@ branch_unless false t k = when t k
 abbrev pub no_code : Made
 no_code = record { now = []; blocks = [] }
 
--- Code that does the items and goes on at what stands behind them; new blocks have the numbers from k on. Items of exceptions, of
--- instances and of temporaries that have to be ended have no code yet.
+-- Code that does the items and goes on at what stands behind them; new blocks have the numbers from k on. Items of exceptions
+-- and of instances have no code yet.
 abbrev mutual
   pub code : Exits → Items → ℕ → List Instr → Made
   code out none k behind = record { now = behind; blocks = [] }
@@ -105,15 +118,17 @@ abbrev mutual
       record { now = switch t a.0 ∷ b.now; blocks = behind ∷ b.blocks ++ a.1 }
   code_item out (loop l) k behind = record { now = jump (suc k) ∷ []; blocks = code_loop out l k behind }
   code_item out (body_first l) k behind = record { now = jump (suc (suc k)) ∷ []; blocks = code_loop out l k behind }
-  code_item out (protect t keep items finalization) k behind =
+  code_item out (protect t items finalization) k behind =
       let b = code out finalization (k + 4) (dispatch t k ∷ behind) in
       let a = code (finally_exits t k) items (k + 4 + length b.blocks) (jump k ∷ []) in
       record { now = do_act (constant t (pos 0)) None ∷ a.now; blocks = b.now ∷ out 1 ∷ out 2 ∷ out 3 ∷ b.blocks ++ a.blocks }
   code_item out (leave what) k behind = record { now = out (suc what); blocks = [] }
   code_item out (enter r given receiver) k behind = record { now = do_call r given receiver None ∷ behind; blocks = [] }
+  code_item out (scoped t ts items) k behind =
+      let a = code (scope_exits out (t ∷ ts)) items k (ends (t ∷ ts) behind) in
+      record { now = open_temporaries (t ∷ ts) ∷ a.now; blocks = a.blocks }
   code_item out (halt t) k behind = record { now = stop t ∷ behind; blocks = [] }
-  code_item out (finish keep) k behind = no_code
-  code_item out (attempt keep items cs) k behind = no_code
+  code_item out (attempt items cs) k behind = no_code
   code_item out (throw t) k behind = no_code
   code_item out rethrow k behind = no_code
   code_item out (construct c r given to) k behind = no_code

@@ -1,11 +1,11 @@
 -- When a state of managed code stands for one of the source machine.
-use Rattle.std.specs.Prelude.{◌≡◌, ℕ, suc, ◌+◌, List, [], ◌∷◌, ◌⊎◌, Some, slice_get}
+use Rattle.std.specs.Prelude.{◌≡◌, ℕ, zero, suc, ◌+◌, List, [], ◌∷◌, ◌⊎◌, Some, slice_get}
 use Rattle.op_meaning.specs.Frames.{Program, State, Caller}
-use Rattle.op_meaning.specs.Items.{Item, Turns, turns, Task, item, mark, turn, finally, resume, catching, handling, leaving, ending, due}
+use Rattle.op_meaning.specs.Items.{Item, Turns, turns, Task, item, mark, turn, finally, resume, catching, scope, handling, leaving, ending, due}
 use Rattle.op_meaning.specs.World.{Running}
-use Rattle.op_mir.specs.Code.{Instr, jump, dispatch, make_due, ret, Exits, loop_exits, finally_exits, routine_exits, branch_if, Made, code, code_item, code_loop, between_code, blocks_in}
+use Rattle.op_mir.specs.Code.{Instr, jump, dispatch, make_due, ret, Exits, loop_exits, finally_exits, scope_exits, ends, routine_exits, branch_if, Made, code, code_item, code_loop, between_code, blocks_in}
 use Rattle.op_mir.specs.Machine.{MirState, MirCaller}
-use Rattle.op_mir.specs.Plain.{ArePlain, IsPlainItem, ArePlainTurns, Exists, IsPlainWorld, IsPlainCaller, ArePlainFrames, ArePlainPending}
+use Rattle.op_mir.specs.Plain.{IsWay, ArePlain, IsPlainItem, ArePlainTurns, Exists, IsPlainWorld, IsPlainCaller, ArePlainFrames, ArePlainPending}
 
 -- ---- blocks
 
@@ -59,16 +59,19 @@ At p bs out (mark l ∷ work) rest =
     × ArePlainTurns p l × (out ≡ loop_exits outer k) × Comes bs rest (jump (suc k) ∷ []) × LoopStands bs outer l k behind × At p bs outer work behind
 At p bs out (turn l ∷ work) rest =
     (k : ℕ) × (behind : List Instr) × ArePlainTurns p l × TestStands bs out l k rest × LoopStands bs out l k behind × At p bs out work behind
-At p bs out (finally t keep items ∷ work) rest =
+At p bs out (finally t items ∷ work) rest =
     (outer : Exits) × (k : ℕ) × (behind : List Instr)
     × ArePlain p items × (out ≡ finally_exits t k) × Comes bs rest (jump k ∷ [])
     × FinallyStands bs outer t (code outer items (k + 4) (dispatch t k ∷ behind)) k × At p bs outer work behind
-At p bs out (resume t keep ∷ work) rest =
+At p bs out (resume t ∷ work) rest =
     (k : ℕ) × (behind : List Instr) × Comes bs rest (dispatch t k ∷ behind) × Has bs (k + 1) (out 1 ∷ out 2 ∷ out 3 ∷ []) × At p bs out work behind
+At p bs out (scope t ts ∷ work) rest =
+    (outer : Exits) × (behind : List Instr) × (out ≡ scope_exits outer (t ∷ ts)) × Comes bs rest (ends (t ∷ ts) behind) × At p bs outer work behind
+At p bs out (leaving zero ∷ work) rest = ⊥
+At p bs out (leaving (suc n) ∷ work) rest = (behind : List Instr) × IsWay n × Comes bs rest (out (suc n)) × At p bs out work behind
 At p bs out (due f ∷ work) rest = (behind : List Instr) × Exists p f.0 × Comes bs rest (make_due f ∷ behind) × At p bs out work behind
-At p bs out (catching keep cs ∷ work) rest = ⊥
-At p bs out (handling keep i ∷ work) rest = ⊥
-At p bs out (leaving reason ∷ work) rest = ⊥
+At p bs out (catching cs ∷ work) rest = ⊥
+At p bs out (handling i ∷ work) rest = ⊥
 At p bs out (ending variables result ∷ work) rest = ⊥
 
 -- ---- states

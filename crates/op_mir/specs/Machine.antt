@@ -17,12 +17,13 @@ use Rattle.op_meaning.specs.Expressions.{result_of}
 use Rattle.op_meaning.specs.Frames.{Program, CallerOver, StateOver, Rules, Frame, finalize}
 use Rattle.op_meaning.specs.Holding.{each, searching}
 use Rattle.op_meaning.specs.Leaving.{raised_again}
+use Rattle.op_meaning.specs.Losing.{ends_made}
 use Rattle.op_meaning.specs.Machine.{label_has, halts, returned}
 use Rattle.op_meaning.specs.Numbers.{is_true}
 use Rattle.op_meaning.specs.Source.{Event, Asked, LetGo, Looked, Taken, Written, Reported, looks, behind, taken}
 use Rattle.op_meaning.specs.Start.{first_world, first_pending}
 use Rattle.op_meaning.specs.World.{World, Ending, Running, Ended, number_at}
-use Rattle.op_mir.specs.Code.{Instr, do_act, do_call, jump, when, unless, switch, dispatch, make_due, stop, ret, Arm, blocks_in}
+use Rattle.op_mir.specs.Code.{Instr, do_act, do_call, jump, when, unless, switch, dispatch, make_due, open_temporaries, end_temporary, stop, ret, Arm, blocks_in}
 
 -- ---- programs
 
@@ -94,6 +95,8 @@ execute c (unless t k) m = if is_true (number_at m.world t) then m else go_to c 
 execute c (switch t arms) m = go_if c (arm_for (number_at m.world t) arms) m
 execute c (dispatch t k) m = dispatched c (number_at m.world t) t k m
 execute c (make_due f) m = record m { pending = finalize f ∷ m.pending }
+execute c (open_temporaries ts) m = m
+execute c (end_temporary t) m = ends_made (code_rules c) t m
 execute c (stop t) m = halts (number_at m.world t) m
 execute c ret m = returned (tables c) m.callers m
 
@@ -149,6 +152,8 @@ looks_by (unless t k ∷ rest) = false
 looks_by (switch t arms ∷ rest) = false
 looks_by (dispatch t k ∷ rest) = false
 looks_by (make_due f ∷ rest) = false
+looks_by (open_temporaries ts ∷ rest) = false
+looks_by (end_temporary t ∷ rest) = false
 looks_by (stop t ∷ rest) = false
 looks_by (ret ∷ rest) = false
 
@@ -202,6 +207,8 @@ instr_bytes core r (unless t k) = 0
 instr_bytes core r (switch t arms) = 0
 instr_bytes core r (dispatch t k) = 0
 instr_bytes core r (make_due f) = 0
+instr_bytes core r (open_temporaries ts) = 0
+instr_bytes core r (end_temporary t) = 0
 instr_bytes core r (stop t) = 0
 instr_bytes core r ret = result_bytes core (result_of (slice_get core.routines r))
 

@@ -4,7 +4,7 @@ use Rattle.op_core.specs.declared.ids.RoutineId.{RoutineId}
 use Rattle.op_core.specs.declared.program.Unit.{Unit as UnitRow}
 use Rattle.op_meaning.specs.Calls.{ending_of}
 use Rattle.op_meaning.specs.Frames.{Program, Caller, Frame, walk, destruction, construction, closing, Pending, finalize, empty_global}
-use Rattle.op_meaning.specs.Items.{Item, act, also, choose, select, loop, body_first, protect, leave, enter, finish, attempt, throw, rethrow, halt, construct, free, Items, none, then_do, Turns, turns, Cases, no_cases, cases}
+use Rattle.op_meaning.specs.Items.{Item, act, also, choose, select, loop, body_first, protect, leave, enter, scoped, attempt, throw, rethrow, halt, construct, free, Items, none, then_do, Turns, turns, Cases, no_cases, cases}
 use Rattle.op_meaning.specs.Start.{first_pending}
 use Rattle.op_meaning.specs.Values.{Value, number, parts, text, line, array, instance, Holder}
 use Rattle.op_meaning.specs.World.{World}
@@ -35,12 +35,12 @@ abbrev mutual
   IsPlainItem p (select t cs otherwise) = ArePlainCases p cs × ArePlain p otherwise
   IsPlainItem p (loop l) = ArePlainTurns p l
   IsPlainItem p (body_first l) = ArePlainTurns p l
-  IsPlainItem p (protect t keep items finalization) = ArePlain p items × ArePlain p finalization
+  IsPlainItem p (protect t items finalization) = ArePlain p items × ArePlain p finalization
   IsPlainItem p (leave what) = IsWay what
   IsPlainItem p (enter r given receiver) = Exists p r
+  IsPlainItem p (scoped t ts items) = ArePlain p items
   IsPlainItem p (halt t) = Unit {0}
-  IsPlainItem p (finish keep) = ⊥
-  IsPlainItem p (attempt keep items cs) = ⊥
+  IsPlainItem p (attempt items cs) = ⊥
   IsPlainItem p (throw t) = ⊥
   IsPlainItem p rethrow = ⊥
   IsPlainItem p (construct c r given to) = ⊥

@@ -9,7 +9,7 @@ use Rattle.op_core.specs.declared.program.Unit.{Unit as UnitRow}
 use Rattle.op_core.specs.declared.routine.Routine.{Routine}
 use Rattle.op_core.specs.declared.routine.Variable.{Variable}
 use Rattle.op_meaning.specs.Frames.{program_of}
-use Rattle.op_meaning.specs.Items.{Item, act, also, choose, select, loop, body_first, protect, leave, enter, finish, attempt, throw, rethrow, halt, construct, free, Items, none, then_do, Turns, turns, Cases, no_cases, cases}
+use Rattle.op_meaning.specs.Items.{Item, act, also, choose, select, loop, body_first, protect, leave, enter, scoped, attempt, throw, rethrow, halt, construct, free, Items, none, then_do, Turns, turns, Cases, no_cases, cases}
 use Rattle.op_meaning.specs.Shapes.{is_managed, no_type}
 use Rattle.op_mir.specs.Code.{items_of}
 use Rattle.op_mir.specs.Plain.{IsPlain}
@@ -28,12 +28,12 @@ abbrev mutual
   is_plain_item n (select t cs otherwise) = are_plain_cases n cs && are_plain n otherwise
   is_plain_item n (loop l) = are_plain_turns n l
   is_plain_item n (body_first l) = are_plain_turns n l
-  is_plain_item n (protect t keep items finalization) = are_plain n items && are_plain n finalization
+  is_plain_item n (protect t items finalization) = are_plain n items && are_plain n finalization
   is_plain_item n (leave what) = nat_lt what 3
   is_plain_item n (enter r given receiver) = nat_lt r n
   is_plain_item n (halt t) = true
-  is_plain_item n (finish keep) = false
-  is_plain_item n (attempt keep items cs) = false
+  is_plain_item n (scoped t ts items) = are_plain n items
+  is_plain_item n (attempt items cs) = false
   is_plain_item n (throw t) = false
   is_plain_item n rethrow = false
   is_plain_item n (construct c r given to) = false

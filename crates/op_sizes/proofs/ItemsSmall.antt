@@ -1,7 +1,8 @@
 -- The code of items comes to no more than what the items do: what stands behind them is there once.
 use Rattle.std.proofs.Common.{◌≡◌, ◌≤◌, ℕ, zero, suc, ◌+◌, Bool, true, false, List, [], ◌∷◌, ◌++◌, length, refl, arith, if◌then◌else◌}
-use Rattle.op_meaning.specs.Items.{Item, act, also, choose, select, loop, body_first, protect, leave, enter, finish, attempt, throw, rethrow, halt, construct, free, Items, none, then_do, Turns, turns, Cases, no_cases, cases}
-use Rattle.op_mir.specs.Code.{Instr, do_act, do_call, jump, when, unless, switch, dispatch, make_due, stop, ret, branch_if, branch_unless, Exits, is_jump, continued, loop_exits, finally_exits, routine_exits, code, code_item, code_loop, code_cases, blocks_of}
+use Rattle.op_meaning.specs.Items.{Item, act, also, choose, select, loop, body_first, protect, leave, enter, scoped, attempt, throw, rethrow, halt, construct, free, Items, none, then_do, Turns, turns, Cases, no_cases, cases}
+use Rattle.op_meaning.specs.World.{Temporary}
+use Rattle.op_mir.specs.Code.{Instr, do_act, do_call, jump, when, unless, switch, dispatch, make_due, open_temporaries, end_temporary, stop, ret, branch_if, branch_unless, Exits, is_jump, continued, loop_exits, finally_exits, ends, scope_exits, routine_exits, code, code_item, code_loop, code_cases, blocks_of}
 use Rattle.op_sizes.specs.Sizes.{instruction_size, arms_size, code_size, blocks_size, items_size, item_size, turns_size, cases_size}
 
 -- ---- lists
@@ -25,6 +26,8 @@ continued_by k (unless t j ∷ is) true e = absurd (cc e)
 continued_by k (switch t arms ∷ is) true e = absurd (cc e)
 continued_by k (dispatch t j ∷ is) true e = absurd (cc e)
 continued_by k (make_due f ∷ is) true e = absurd (cc e)
+continued_by k (open_temporaries ts ∷ is) true e = absurd (cc e)
+continued_by k (end_temporary t ∷ is) true e = absurd (cc e)
 continued_by k (stop t ∷ is) true e = absurd (cc e)
 continued_by k (ret ∷ is) true e = absurd (cc e)
 
@@ -53,6 +56,13 @@ loop_leaves out k l (suc (suc (suc (suc m)))) = l (suc (suc (suc (suc m))))
 
 finally_leaves : (t k : ℕ) → LeaveBy (finally_exits t k)
 finally_leaves t k reason = omega arith
+
+ends_small : (ts : List Temporary) (behind : List Instr) → code_size (ends ts behind) ≡ code_size behind
+ends_small [] behind = refl
+ends_small (t ∷ ts) behind = let same = ends_small ts behind in omega (arith, same)
+
+scope_leaves : (out : Exits) (ts : List Temporary) → LeaveBy out → LeaveBy (scope_exits out ts)
+scope_leaves out ts l reason = let same = ends_small ts (out reason) in let e = l reason in omega (arith, same, e)
 
 -- ---- code
 
@@ -92,7 +102,7 @@ mutual
       omega (arith, joined, other, arms, all)
   item_small out (loop t) k behind l = let inner = loop_small out t k behind l in omega (arith, inner)
   item_small out (body_first t) k behind l = let inner = loop_small out t k behind l in omega (arith, inner)
-  item_small out (protect t keep items finalization) k behind l =
+  item_small out (protect t items finalization) k behind l =
       let b = code out finalization (k + 4) (dispatch t k ∷ behind) in
       let a = code (finally_exits t k) items (k + 4 + length b.blocks) (jump k ∷ []) in
       let at_end = code_small out finalization (k + 4) (dispatch t k ∷ behind) l in
@@ -105,8 +115,11 @@ mutual
   item_small out (leave what) k behind l = let e = l (suc what) in omega (arith, e)
   item_small out (enter r given receiver) k behind l = omega arith
   item_small out (halt t) k behind l = omega arith
-  item_small out (finish keep) k behind l = omega arith
-  item_small out (attempt keep items cs) k behind l = omega arith
+  item_small out (scoped t ts items) k behind l =
+      let inner = code_small (scope_exits out (t ∷ ts)) items k (ends (t ∷ ts) behind) (scope_leaves out (t ∷ ts) l) in
+      let same = ends_small (t ∷ ts) behind in
+      omega (arith, inner, same)
+  item_small out (attempt items cs) k behind l = omega arith
   item_small out (throw t) k behind l = omega arith
   item_small out rethrow k behind l = omega arith
   item_small out (construct c r given to) k behind l = omega arith

@@ -10,10 +10,11 @@ use Rattle.op_core.specs.declared.ids.TypeId.{TypeId}
 use Rattle.op_core.specs.declared.program.Core.{Core}
 use Rattle.op_lower.specs.Seen.{seen, seen_blocks}
 use Rattle.op_meaning.specs.Actions.{Action, begin_with, pick, primitive}
-use Rattle.op_meaning.specs.Items.{Item, act, also, choose, select, loop, body_first, protect, leave, enter, finish, attempt, throw, rethrow, halt, construct, free, Items, none, then_do, Turns, turns, Cases, no_cases, cases}
+use Rattle.op_meaning.specs.Items.{Item, act, also, choose, select, loop, body_first, protect, leave, enter, scoped, attempt, throw, rethrow, halt, construct, free, Items, none, then_do, Turns, turns, Cases, no_cases, cases}
 use Rattle.op_meaning.specs.Primitives.{Operand, from_temp, literal_text}
 use Rattle.op_meaning.specs.Shapes.{Shape, composite, of_chars, of_elements, of_instance, shape_of, single, type_of_local}
-use Rattle.op_mir.specs.Code.{Instr, do_act, do_call, jump, when, unless, switch, dispatch, make_due, stop, ret, branch_if, branch_unless, Exits, is_jump, continued, loop_exits, finally_exits, routine_exits, code, code_item, code_loop, code_cases, blocks_of}
+use Rattle.op_meaning.specs.World.{Temporary}
+use Rattle.op_mir.specs.Code.{Instr, do_act, do_call, jump, when, unless, switch, dispatch, make_due, open_temporaries, end_temporary, stop, ret, branch_if, branch_unless, Exits, is_jump, continued, loop_exits, finally_exits, ends, scope_exits, routine_exits, code, code_item, code_loop, code_cases, blocks_of}
 use Rattle.op_mir.specs.View.{first_at, view_action, view_instruction, view_operand}
 use Rattle.op_mir.specs.declared.action.Action.TheVariants.{BeginWith, Compute, Constant, Copy, Load, Look, Pick, Store, Do}
 use Rattle.op_mir.specs.declared.action.Action.{Action as OwnAction}
@@ -78,12 +79,12 @@ abbrev mutual
   item_text w core (select t cs otherwise) = cases_text w core cs + items_text w core otherwise
   item_text w core (loop l) = turns_text w core l
   item_text w core (body_first l) = turns_text w core l
-  item_text w core (protect t keep items finalization) = items_text w core items + items_text w core finalization
+  item_text w core (protect t items finalization) = items_text w core items + items_text w core finalization
   item_text w core (leave what) = 0
   item_text w core (enter r given receiver) = 0
   item_text w core (halt t) = 0
-  item_text w core (finish keep) = 0
-  item_text w core (attempt keep items cs) = 0
+  item_text w core (scoped t ts items) = items_text w core items
+  item_text w core (attempt items cs) = 0
   item_text w core (throw t) = 0
   item_text w core rethrow = 0
   item_text w core (construct c r given to) = 0
@@ -116,6 +117,8 @@ module _ (w : List ℕ → ℕ) (core : Core) where
   continued_by k (switch t arms ∷ is) true e = absurd (cc e)
   continued_by k (dispatch t j ∷ is) true e = absurd (cc e)
   continued_by k (make_due f ∷ is) true e = absurd (cc e)
+  continued_by k (open_temporaries ts ∷ is) true e = absurd (cc e)
+  continued_by k (end_temporary t ∷ is) true e = absurd (cc e)
   continued_by k (stop t ∷ is) true e = absurd (cc e)
   continued_by k (ret ∷ is) true e = absurd (cc e)
 
@@ -144,6 +147,13 @@ module _ (w : List ℕ → ℕ) (core : Core) where
 
   finally_leaves : (t k : ℕ) → LeaveBy (finally_exits t k)
   finally_leaves t k reason = omega arith
+
+  ends_kept : (ts : List Temporary) (behind : List Instr) → code_text w core (ends ts behind) ≡ code_text w core behind
+  ends_kept [] behind = refl
+  ends_kept (t ∷ ts) behind = let same = ends_kept ts behind in omega (arith, same)
+
+  scope_leaves : (out : Exits) (ts : List Temporary) → LeaveBy out → LeaveBy (scope_exits out ts)
+  scope_leaves out ts l reason = let same = ends_kept ts (out reason) in let e = l reason in omega (arith, same, e)
 
   -- ---- code
 
@@ -183,7 +193,7 @@ module _ (w : List ℕ → ℕ) (core : Core) where
         omega (arith, joined, other, arms, all)
     item_kept out (loop t) k behind l = let inner = loop_kept out t k behind l in omega (arith, inner)
     item_kept out (body_first t) k behind l = let inner = loop_kept out t k behind l in omega (arith, inner)
-    item_kept out (protect t keep items finalization) k behind l =
+    item_kept out (protect t items finalization) k behind l =
         let b = code out finalization (k + 4) (dispatch t k ∷ behind) in
         let a = code (finally_exits t k) items (k + 4 + length b.blocks) (jump k ∷ []) in
         let at_end = code_kept out finalization (k + 4) (dispatch t k ∷ behind) l in
@@ -196,8 +206,11 @@ module _ (w : List ℕ → ℕ) (core : Core) where
     item_kept out (leave what) k behind l = let e = l (suc what) in omega (arith, e)
     item_kept out (enter r given receiver) k behind l = omega arith
     item_kept out (halt t) k behind l = omega arith
-    item_kept out (finish keep) k behind l = omega arith
-    item_kept out (attempt keep items cs) k behind l = omega arith
+    item_kept out (scoped t ts items) k behind l =
+        let inner = code_kept (scope_exits out (t ∷ ts)) items k (ends (t ∷ ts) behind) (scope_leaves out (t ∷ ts) l) in
+        let same = ends_kept (t ∷ ts) behind in
+        omega (arith, inner, same)
+    item_kept out (attempt items cs) k behind l = omega arith
     item_kept out (throw t) k behind l = omega arith
     item_kept out rethrow k behind l = omega arith
     item_kept out (construct c r given to) k behind l = omega arith

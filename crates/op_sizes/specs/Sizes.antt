@@ -1,10 +1,10 @@
 -- How much low code managed code and items come to at most.
 use Rattle.std.specs.Prelude.{ℕ, ◌+◌, ◌*◌, List, [], ◌∷◌, length}
 use Rattle.op_meaning.specs.Actions.{Action, constant, load, store, copy, look, begin_with, pick, arithmetic, compare, negate, complement, invert, absolute, odd, upper, low_bits, check, neighbour, single, span, combine, contains, check_set, primitive}
-use Rattle.op_meaning.specs.Items.{Given, by_value, by_reference, by_place, by_copy, Receiver, nowhere, to_temp, to_place, Item, act, also, choose, select, loop, body_first, protect, leave, enter, finish, attempt, throw, rethrow, halt, construct, free, Items, none, then_do, Turns, turns, Cases, no_cases, cases}
+use Rattle.op_meaning.specs.Items.{Given, by_value, by_reference, by_place, by_copy, Receiver, nowhere, to_temp, to_place, Item, act, also, choose, select, loop, body_first, protect, leave, enter, scoped, attempt, throw, rethrow, halt, construct, free, Items, none, then_do, Turns, turns, Cases, no_cases, cases}
 use Rattle.op_meaning.specs.Paths.{Path}
 use Rattle.op_meaning.specs.Primitives.{Operand, from_temp, literal_text}
-use Rattle.op_mir.specs.Code.{Arm, Instr, do_act, do_call, jump, when, unless, switch, dispatch, make_due, stop, ret}
+use Rattle.op_mir.specs.Code.{Arm, Instr, do_act, do_call, jump, when, unless, switch, dispatch, make_due, open_temporaries, end_temporary, stop, ret}
 
 -- ---- instructions of managed code
 
@@ -82,6 +82,8 @@ instruction_size (unless t k) = 2
 instruction_size (switch t arms) = 1 + arms_size arms
 instruction_size (dispatch t k) = 6
 instruction_size (make_due f) = 4
+instruction_size (open_temporaries ts) = 0
+instruction_size (end_temporary t) = 0
 instruction_size (stop t) = 3
 instruction_size ret = 22
 
@@ -100,7 +102,7 @@ abbrev mutual
   items_size none = 0
   items_size (then_do i others) = item_size i + items_size others
 
-  -- items of exceptions, of instances and of temporaries that have to be ended have no code
+  -- items of exceptions and of instances have no code, and the ends of temporaries no low code
   pub item_size : Item → ℕ
   item_size (act a) = action_size a
   item_size (also truth t items) = 3 + items_size items
@@ -108,12 +110,12 @@ abbrev mutual
   item_size (select t cs otherwise) = 2 + (cases_size cs + items_size otherwise)
   item_size (loop l) = 5 + turns_size l
   item_size (body_first l) = 5 + turns_size l
-  item_size (protect t keep items finalization) = 14 + (items_size items + items_size finalization)
+  item_size (protect t items finalization) = 14 + (items_size items + items_size finalization)
   item_size (leave what) = 2
   item_size (enter r given receiver) = call_size given receiver
   item_size (halt t) = 3
-  item_size (finish keep) = 0
-  item_size (attempt keep items cs) = 0
+  item_size (scoped t ts items) = items_size items
+  item_size (attempt items cs) = 0
   item_size (throw t) = 0
   item_size rethrow = 0
   item_size (construct c r given to) = 0

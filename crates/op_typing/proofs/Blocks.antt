@@ -5,8 +5,9 @@ use Rattle.std.proofs.lemmas.List.Elements.{All-append, All-cons, All-nil}
 use Rattle.std.specs.List.{All}
 use Rattle.op_core.specs.declared.program.Core.{Core}
 use Rattle.op_meaning.specs.Actions.{constant}
-use Rattle.op_meaning.specs.Items.{Item, act, also, choose, select, loop, body_first, protect, leave, enter, finish, attempt, throw, rethrow, halt, construct, free, Items, none, then_do, Turns, turns, Cases, no_cases, cases}
-use Rattle.op_mir.specs.Code.{Arm, Exits, Instr, Made, blocks_of, branch_if, branch_unless, code, code_cases, code_item, code_loop, continued, dispatch, do_act, do_call, finally_exits, is_jump, jump, loop_exits, ret, routine_exits, stop, switch, unless}
+use Rattle.op_meaning.specs.Items.{Item, act, also, choose, select, loop, body_first, protect, leave, enter, scoped, attempt, throw, rethrow, halt, construct, free, Items, none, then_do, Turns, turns, Cases, no_cases, cases}
+use Rattle.op_meaning.specs.World.{Temporary}
+use Rattle.op_mir.specs.Code.{Arm, Exits, Instr, Made, blocks_of, branch_if, branch_unless, code, code_cases, code_item, code_loop, continued, dispatch, do_act, do_call, end_temporary, ends, finally_exits, is_jump, jump, loop_exits, open_temporaries, ret, routine_exits, scope_exits, stop, switch, unless}
 use Rattle.op_typing.specs.Typed.{AreTyped, AreTypedBlocks, AreTypedCases, AreTypedInstrs, AreTypedTurns, AreWords, IsTypedInstr, IsTypedItem}
 
 module _ (core : Core) (r : ℕ) where
@@ -59,6 +60,13 @@ module _ (core : Core) (r : ℕ) where
   finally_leaves : (t k : ℕ) → ExitsTyped (finally_exits t k)
   finally_leaves t k n few = in_front (do_act (constant t (pos n)) None) (jump k ∷ []) (omega (arith, ints, few)) (jump_typed k)
 
+  ends_typed : (ts : List Temporary) (behind : List Instr) → AreTypedInstrs core r behind → AreTypedInstrs core r (ends ts behind)
+  ends_typed [] behind h = h
+  ends_typed (t ∷ ts) behind h = in_front (end_temporary t) (ends ts behind) tt (ends_typed ts behind h)
+
+  scope_leaves : (out : Exits) (ts : List Temporary) → ExitsTyped out → ExitsTyped (scope_exits out ts)
+  scope_leaves out ts leaves n few = in_front (open_temporaries []) (ends ts (out n)) tt (ends_typed ts (out n) (leaves n few))
+
   -- ---- items
 
   mutual
@@ -89,7 +97,7 @@ module _ (core : Core) (r : ℕ) where
         (in_front (switch t a.0) b.now a'.0 b'.0, block_first behind (b.blocks ++ a.1) h (joined b.blocks a.1 b'.1 a'.1))
     item_typed (loop l) out k behind leaves h typed = (jump_typed (suc k), loop_typed l out k behind leaves h typed)
     item_typed (body_first l) out k behind leaves h typed = (jump_typed (suc (suc k)), loop_typed l out k behind leaves h typed)
-    item_typed (protect t keep items finalization) out k behind leaves h typed =
+    item_typed (protect t items finalization) out k behind leaves h typed =
         let b = code out finalization (k + 4) (dispatch t k ∷ behind) in
         let a = code (finally_exits t k) items (k + 4 + length b.blocks) (jump k ∷ []) in
         let b' = code_typed finalization out (k + 4) (dispatch t k ∷ behind) leaves (in_front (dispatch t k) behind tt h) typed.1 in
@@ -99,8 +107,11 @@ module _ (core : Core) (r : ℕ) where
     item_typed (leave what) out k behind leaves h typed = (leaves (suc what) (omega (arith, typed)), no_blocks)
     item_typed (enter q given receiver) out k behind leaves h typed = (in_front (do_call q given receiver None) behind typed h, no_blocks)
     item_typed (halt t) out k behind leaves h typed = (in_front (stop t) behind tt h, no_blocks)
-    item_typed (finish keep) out k behind leaves h typed = (nothing, no_blocks)
-    item_typed (attempt keep items cs) out k behind leaves h typed = (nothing, no_blocks)
+    item_typed (scoped t ts items) out k behind leaves h typed =
+        let outer = scope_exits out (t ∷ ts) in
+        let a = code_typed items outer k (ends (t ∷ ts) behind) (scope_leaves out (t ∷ ts) leaves) (ends_typed (t ∷ ts) behind h) typed in
+        (in_front (open_temporaries (t ∷ ts)) (code outer items k (ends (t ∷ ts) behind)).now tt a.0, a.1)
+    item_typed (attempt items cs) out k behind leaves h typed = (nothing, no_blocks)
     item_typed (throw t) out k behind leaves h typed = (nothing, no_blocks)
     item_typed rethrow out k behind leaves h typed = (nothing, no_blocks)
     item_typed (construct c q given to) out k behind leaves h typed = (nothing, no_blocks)

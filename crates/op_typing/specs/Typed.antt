@@ -20,12 +20,12 @@ use Rattle.op_core.specs.declared.routine.Variable.{Variable}
 use Rattle.op_core.specs.declared.statement.Label.{Label}
 use Rattle.op_core.specs.declared.types.IntegerKind.{IntegerKind}
 use Rattle.op_meaning.specs.Actions.{Action, constant, load, store, copy, look, begin_with, pick, arithmetic, compare, negate, complement, invert, absolute, odd, upper, low_bits, check, neighbour, single, span, combine, contains, check_set, primitive}
-use Rattle.op_meaning.specs.Items.{Given, by_value, by_reference, by_place, by_copy, Receiver, nowhere, to_temp, to_place, Item, act, also, choose, select, loop, body_first, protect, leave, enter, finish, attempt, throw, rethrow, halt, construct, free, Items, none, then_do, Turns, turns, Cases, no_cases, cases}
+use Rattle.op_meaning.specs.Items.{Given, by_value, by_reference, by_place, by_copy, Receiver, nowhere, to_temp, to_place, Item, act, also, choose, select, loop, body_first, protect, leave, enter, scoped, attempt, throw, rethrow, halt, construct, free, Items, none, then_do, Turns, turns, Cases, no_cases, cases}
 use Rattle.op_meaning.specs.Numbers.{fits_word}
 use Rattle.op_meaning.specs.Paths.{Root, in_global, in_local, through, in_temporary, Path, path_to}
 use Rattle.op_meaning.specs.Primitives.{IsApplied, Operand, from_temp, literal_text}
 use Rattle.op_meaning.specs.Shapes.{single, composite, shape_of, is_reference, variables_of}
-use Rattle.op_mir.specs.Code.{Instr, do_act, do_call, jump, when, unless, switch, dispatch, make_due, stop, ret}
+use Rattle.op_mir.specs.Code.{Instr, do_act, do_call, jump, when, unless, switch, dispatch, make_due, open_temporaries, end_temporary, stop, ret}
 
 -- ---- types
 
@@ -161,11 +161,11 @@ abbrev mutual
   IsTypedItem core r (select t cs otherwise) = AreTypedCases core r cs × AreTyped core r otherwise
   IsTypedItem core r (loop l) = AreTypedTurns core r l
   IsTypedItem core r (body_first l) = AreTypedTurns core r l
-  IsTypedItem core r (protect t keep items finalization) = AreTyped core r items × AreTyped core r finalization
+  IsTypedItem core r (protect t items finalization) = AreTyped core r items × AreTyped core r finalization
   IsTypedItem core r (leave what) = what < 3
   IsTypedItem core r (enter q given receiver) = IsTypedCall core r q given receiver
-  IsTypedItem core r (finish keep) = Unit {0}
-  IsTypedItem core r (attempt keep items cs) = Unit {0}
+  IsTypedItem core r (scoped t ts items) = AreTyped core r items
+  IsTypedItem core r (attempt items cs) = Unit {0}
   IsTypedItem core r (throw t) = Unit {0}
   IsTypedItem core r rethrow = Unit {0}
   IsTypedItem core r (halt t) = Unit {0}
@@ -190,6 +190,8 @@ IsTypedInstr core r (unless t k) = Unit {0}
 IsTypedInstr core r (switch t arms) = All (λ a. AreWords a.labels) arms
 IsTypedInstr core r (dispatch t k) = Unit {0}
 IsTypedInstr core r (make_due f) = Unit {0}
+IsTypedInstr core r (open_temporaries ts) = Unit {0}
+IsTypedInstr core r (end_temporary t) = Unit {0}
 IsTypedInstr core r (stop t) = Unit {0}
 IsTypedInstr core r ret = Unit {0}
 

@@ -78,11 +78,10 @@ fn item(out: &mut Writer, core: &Core, of: &Item) -> Result<(), NoMemory> {
         Item::BodyFirst(of) => turns(out, core, "loop from its body on", of),
         Item::Protect {
             temporary: by,
-            keep,
             items,
             finalization,
         } => {
-            headed(out, core, &protect_words(*by, *keep), items)?;
+            headed(out, core, &protect_words(*by), items)?;
             part(out, core, "finally", finalization)
         }
         Item::Leave(way) => out.line(&[Word::Plain("leave by"), way_word(*way)]),
@@ -92,20 +91,18 @@ fn item(out: &mut Writer, core: &Core, of: &Item) -> Result<(), NoMemory> {
             receiver: to,
         } => enter(out, core, *id, given.as_slice(), to),
         Item::Attempt {
-            keep,
             items,
             clauses,
         } => {
-            headed(out, core, &attempt_words(*keep), items)?;
+            headed(out, core, &[Word::Plain("attempt")], items)?;
             all_clauses(out, core, clauses)
         }
         Item::AttemptAll {
-            keep,
             items,
             clauses,
             others,
         } => {
-            headed(out, core, &attempt_words(*keep), items)?;
+            headed(out, core, &[Word::Plain("attempt")], items)?;
             all_clauses(out, core, clauses)?;
             part(out, core, "on all others", others)
         }
@@ -148,16 +145,8 @@ fn also(
     headed(out, core, &words, list)
 }
 
-fn attempt_words(keep: u32) -> [Word<'static>; 2] {
-    [Word::Plain("attempt"), Word::Numbered("keep: ", keep)]
-}
-
-fn protect_words(by: TemporaryId, keep: u32) -> [Word<'static>; 3] {
-    [
-        Word::Plain("protect"),
-        temporary(by),
-        Word::Numbered("keep: ", keep),
-    ]
+fn protect_words(by: TemporaryId) -> [Word<'static>; 2] {
+    [Word::Plain("protect"), temporary(by)]
 }
 
 fn free_words(takes_nil: bool, instance: TemporaryId) -> [Word<'static>; 2] {

@@ -125,10 +125,10 @@ pub code_item-returns-in-BodyFirst : goal.code_item-returns-in-BodyFirst
 code_item-returns-in-BodyFirst t c = body_first_is c.args.exits.now c.args.item.now c.in-BodyFirst.turns _ c.args.blocks.now c.from_body.new.blocks c.args.now.now c.from_body.new.now c.from_body.result c.in-BodyFirst.is c.in-BodyFirst.turns-is c.from_body.ensures
 
 pub code_item-protect-requires : goal.code_item-protect-requires
-code_item-protect-requires t c = (omega (arith, protect_size c.args.item.now c.in-Protect.temporary c.in-Protect.keep c.in-Protect.items c.in-Protect.finalization c.in-Protect.is, ap (λ x. size x.items) c.in-Protect.items-is, ap (λ x. size x.items) c.in-Protect.finalization-is), tt)
+code_item-protect-requires t c = (omega (arith, protect_size c.args.item.now c.in-Protect.temporary c.in-Protect.items c.in-Protect.finalization c.in-Protect.is, ap (λ x. size x.items) c.in-Protect.items-is, ap (λ x. size x.items) c.in-Protect.finalization-is), tt)
 
 pub code_item-returns-in-Protect : goal.code_item-returns-in-Protect
-code_item-returns-in-Protect t c = protect_is c.args.exits.now c.args.item.now c.in-Protect.temporary _ c.in-Protect.keep c.in-Protect.items _ c.in-Protect.finalization _ c.args.blocks.now c.protect.new.blocks c.args.now.now c.protect.new.now c.protect.result c.in-Protect.is c.in-Protect.temporary-is c.in-Protect.items-is c.in-Protect.finalization-is c.protect.ensures
+code_item-returns-in-Protect t c = protect_is c.args.exits.now c.args.item.now c.in-Protect.temporary _ c.in-Protect.items _ c.in-Protect.finalization _ c.args.blocks.now c.protect.new.blocks c.args.now.now c.protect.new.now c.protect.result c.in-Protect.is c.in-Protect.temporary-is c.in-Protect.items-is c.in-Protect.finalization-is c.protect.ensures
 
 pub code_item-returns-in-Leave : goal.code_item-returns-in-Leave
 code_item-returns-in-Leave t c = leave_makes c.args.exits.now c.args.item.now c.in-Leave.way _ c.args.blocks.now c.args.now.now c.leave.new.now c.leave.result c.in-Leave.is c.in-Leave.way-is c.leave.ensures

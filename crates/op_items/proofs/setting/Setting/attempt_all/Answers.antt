@@ -3,4 +3,4 @@ use Rattle.op_items.proofs.Nodes.{item_nodes}
 use Rattle.op_items.proofs.setting.Setting.attempt_all.Goals as goal
 
 pub returns : goal.returns
-returns c = adds_as c.args.self c.args.items.now.items c.item.new.items.items c.item.result ((item_nodes _ _).attempt_all_says c.args.keep c.args.body c.args.clauses c.args.others) c.item.ensures
+returns c = adds_as c.args.self c.args.items.now.items c.item.new.items.items c.item.result ((item_nodes _ _).attempt_all_says c.args.body c.args.clauses c.args.others) c.item.ensures
