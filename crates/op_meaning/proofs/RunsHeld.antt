@@ -13,7 +13,7 @@ use Rattle.op_meaning.specs.Costs.{cost}
 use Rattle.op_meaning.specs.Demands.{block, standing}
 use Rattle.op_meaning.specs.Frames.{Program, State}
 use Rattle.op_meaning.specs.Holding.{each, any_below, holders}
-use Rattle.op_meaning.specs.Items.{item, Item, free, scope}
+use Rattle.op_meaning.specs.Items.{item, Item, leave, halt, free, Task, scope}
 use Rattle.op_meaning.specs.Losing.{ends_place}
 use Rattle.op_meaning.specs.Machine.{run_for, step, step_by, stepped, acted, done, do_item, do_task}
 use Rattle.op_meaning.specs.Sets.{bits_below}
@@ -21,7 +21,7 @@ use Rattle.op_meaning.specs.Source.{source, Asked, LetGo, Written, Reported}
 use Rattle.op_meaning.specs.Start.{start, after}
 use Rattle.op_meaning.specs.Texts.{decimal_by}
 use Rattle.op_meaning.specs.Values.{Value, number, parts, text as chars_of, array, instance, named, literal, empty, Holder, global, temporary, object, Place, all_of}
-use Rattle.op_meaning.specs.World.{Object, gone, chars, elements, fields, Live}
+use Rattle.op_meaning.specs.World.{Object, gone, chars, elements, fields, Live, Temporary}
 use Rattle.op_simulation.specs.System.{trace}
 use Rattle.op_tree.specs.declared.operator.Operator.TheVariants.{Add, Div}
 use Rattle.op_tree.specs.declared.position.Name.{Name}
@@ -117,6 +117,52 @@ module _ (name : Name) where
       ≡ record { names = []; output = []; errors = [] }
   unfolding left_after run_for step step_by stepped acted done do_item do_task each any_below
   all_end = refl
+
+  -- ---- temporaries that end behind items
+
+  -- Temporaries 0 and 1 of the type 7 were made, 1 last, and have the strings 1 and 2; temporary 2 was not made.
+  abbrev scope_memory : Holder → Value
+  scope_memory (temporary d of n) = string (suc n)
+  scope_memory h = number (pos 0)
+
+  abbrev of_seven : ℕ → Temporary
+  of_seven n = record { of = id 7; n = n }
+
+  abbrev scope_state : List Task → State
+  scope_state work = let s = start held_program [] in record s {
+    world = record s.world { made = of_seven 1 ∷ of_seven 0 ∷ []; memory = scope_memory; objects = held_objects; next = 3 };
+    work = work;
+  }
+
+  abbrev scope_of_three : Task
+  scope_of_three = scope (of_seven 2) (of_seven 1 ∷ of_seven 0 ∷ [])
+
+  -- one that was not made stays as it is, then the last one that was made ends, and then the first one
+  unmade_stays : left_after 1 held_program (scope_state (scope_of_three ∷ [])) ≡ record { names = 1 ∷ 2 ∷ []; output = []; errors = [] }
+  unfolding left_after
+  unmade_stays = refl
+
+  last_ends_first : left_after 2 held_program (scope_state (scope_of_three ∷ [])) ≡ record { names = 1 ∷ []; output = []; errors = [] }
+  unfolding left_after
+  last_ends_first = refl
+
+  first_ends_last : left_after 3 held_program (scope_state (scope_of_three ∷ [])) ≡ record { names = []; output = []; errors = [] }
+  unfolding left_after
+  first_ends_last = refl
+
+  -- where items are left, their temporaries end in the same order, and then what stands behind them is left too
+  left_items_end : left_after 3 held_program (scope_state (item (leave 0) ∷ scope_of_three ∷ item (halt 0) ∷ [])) ≡ record { names = 1 ∷ []; output = []; errors = [] }
+  unfolding left_after
+  left_items_end = refl
+
+  all_left_end : left_after 4 held_program (scope_state (item (leave 0) ∷ scope_of_three ∷ item (halt 0) ∷ [])) ≡ record { names = []; output = []; errors = [] }
+  unfolding left_after
+  all_left_end = refl
+
+  -- so they do where an exception goes through
+  raised_through : left_after 3 held_program (let s = scope_state (item (halt 0) ∷ scope_of_three ∷ []) in record s { world = record s.world { raised = Some 9 } }) ≡ record { names = []; output = []; errors = [] }
+  unfolding left_after
+  raised_through = refl
 
   -- ---- instances
 

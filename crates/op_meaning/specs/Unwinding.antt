@@ -15,7 +15,7 @@ use Rattle.op_meaning.specs.Paths.{Root, place_of_root}
 use Rattle.op_meaning.specs.Shapes.{field_of_class}
 use Rattle.op_meaning.specs.Texts.{line_feed}
 use Rattle.op_meaning.specs.Values.{Value, text, instance, empty, literal, named, Text, local, object, all_of, part_of}
-use Rattle.op_meaning.specs.World.{World, Temporary, Object, chars, fields, Dead, with_temp, with_number, with_value, number_at, reported}
+use Rattle.op_meaning.specs.World.{World, Object, chars, fields, Dead, with_temp, with_number, with_value, number_at, reported}
 
 -- ---- classes ("Classes")
 

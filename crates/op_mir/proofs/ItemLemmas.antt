@@ -1,6 +1,6 @@
 -- Each item and each task of the plain class, but for calls and returns: its step is reached by code.
 use Rattle.std.proofs.Common.{◌≡◌, ℕ, zero, suc, ◌+◌, List, [], ◌∷◌, ◌++◌, length, Some, None, inl, refl, sym, ap, ◌∙◌, subst, arith}
-use Rattle.std.specs.Prelude.{ℤ, pos, negsuc, Bool, true, false, slice_get, nat_lt, if◌then◌else◌}
+use Rattle.std.specs.Prelude.{ℤ, pos, negsuc, Bool, true, false, slice_get, if◌then◌else◌}
 use Rattle.std.specs.Int.{int_wrap}
 use Rattle.std.specs.List.{list_any}
 use Rattle.op_core.specs.declared.ids.RoutineId.{RoutineId}
@@ -13,7 +13,7 @@ use Rattle.op_meaning.specs.Losing.{ends_among, ends_made}
 use Rattle.op_meaning.specs.Machine.{do_item, do_task, scope_on, turned, another_turn, selected, label_has, low_eight}
 use Rattle.op_meaning.specs.Numbers.{is_true, wrapped}
 use Rattle.op_meaning.specs.Unwinding.{closes}
-use Rattle.op_meaning.specs.World.{World, Temporary, number_at, with_number}
+use Rattle.op_meaning.specs.World.{Temporary, number_at, with_number}
 use Rattle.op_mir.specs.Code.{Instr, do_act, jump, when, unless, switch, dispatch, make_due, open_temporaries, end_temporary, stop, Exits, loop_exits, finally_exits, scope_exits, ends, routine_exits, continued, branch_if, branch_unless, code, code_cases, to_body, between_code, blocks_in}
 use Rattle.op_mir.specs.Going.{Has, Comes, LoopStands, FinallyStands, At, image, Goes}
 use Rattle.op_mir.specs.Machine.{code_of, code_rules, MirState, MirCaller, block_at, block_or, go_to, go_if, arm_for, dispatched, moved, execute}

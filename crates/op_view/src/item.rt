@@ -90,10 +90,7 @@ fn item(out: &mut Writer, core: &Core, of: &Item) -> Result<(), NoMemory> {
             given,
             receiver: to,
         } => enter(out, core, *id, given.as_slice(), to),
-        Item::Attempt {
-            items,
-            clauses,
-        } => {
+        Item::Attempt { items, clauses } => {
             headed(out, core, &[Word::Plain("attempt")], items)?;
             all_clauses(out, core, clauses)
         }
