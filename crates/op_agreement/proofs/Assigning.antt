@@ -10,10 +10,10 @@ use Rattle.op_compute.specs.declared.bank.RuntimeError.TheVariants.{RangeCheck}
 use Rattle.op_constants.specs.Arranged.{IsSmall}
 use Rattle.op_constants.specs.Offsets.{size_in}
 use Rattle.op_core.specs.declared.ids.TypeId.{TypeId}
-use Rattle.op_expand.specs.Moves.{by_words, bytes_code, is_short, limit_of, near}
-use Rattle.op_expand.specs.Places.{place_code, place_of}
-use Rattle.op_expand.specs.declared.frame.Frame.{Frame}
-use Rattle.op_expand.specs.declared.spot.Spot.{Spot}
+use Rattle.op_places.specs.Moves.{by_words, bytes_code, is_short, limit_of, near}
+use Rattle.op_places.specs.Places.{place_code, place_of}
+use Rattle.op_places.specs.declared.frame.Frame.{Frame}
+use Rattle.op_places.specs.declared.spot.Spot.{Spot}
 use Rattle.op_low.specs.State.{State, block_of}
 use Rattle.op_low.specs.declared.ids.VirtualRegister.{VirtualRegister}
 use Rattle.op_low.specs.declared.instruction.Instruction.{Instruction as LowInstruction}

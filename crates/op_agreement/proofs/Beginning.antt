@@ -52,12 +52,13 @@ use Rattle.op_core.specs.Typing.{Within}
 use Rattle.op_core.specs.declared.constant.Const.TheVariants.{Ordinal}
 use Rattle.op_core.specs.declared.ids.TypeId.{TypeId}
 use Rattle.op_core.specs.declared.types.IntegerKind.{IntegerKind}
-use Rattle.op_expand.specs.Homes.{home_at, rounded}
-use Rattle.op_expand.specs.Moves.{begun_by, held_by, near, number_begun, parts_begun, store_op, taken_code, composite_begun, zeros_begun}
-use Rattle.op_expand.specs.Places.{place_code, place_of}
-use Rattle.op_expand.specs.declared.frame.Frame.{Frame}
-use Rattle.op_expand.specs.declared.homes.Home.{Home}
-use Rattle.op_expand.specs.declared.homes.Home.TheVariants.{Held, Shared, Stored}
+use Rattle.op_places.specs.Homes.{home_at, rounded}
+use Rattle.op_expand.specs.Actions.{begun_by, number_begun, parts_begun, composite_begun, zeros_begun}
+use Rattle.op_places.specs.Moves.{held_by, near, store_op, taken_code}
+use Rattle.op_places.specs.Places.{place_code, place_of}
+use Rattle.op_places.specs.declared.frame.Frame.{Frame}
+use Rattle.op_places.specs.declared.homes.Home.{Home}
+use Rattle.op_places.specs.declared.homes.Home.TheVariants.{Held, Shared, Stored}
 use Rattle.op_low.specs.Machine.{act}
 use Rattle.op_low.specs.State.{State}
 use Rattle.op_low.specs.declared.ids.VirtualRegister.{VirtualRegister}

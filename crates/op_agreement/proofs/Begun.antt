@@ -11,8 +11,8 @@ use Rattle.op_constants.specs.Lies.{Lies, arrangement_of}
 use Rattle.op_constants.specs.Offsets.{size_in}
 use Rattle.op_core.specs.declared.ids.TypeId.{TypeId}
 use Rattle.op_expand.specs.Calls.{result_address}
-use Rattle.op_expand.specs.Homes.{home_at, parameter, rounded}
-use Rattle.op_expand.specs.declared.homes.Home.TheVariants.{Held, Stored}
+use Rattle.op_places.specs.Homes.{home_at, parameter, rounded}
+use Rattle.op_places.specs.declared.homes.Home.TheVariants.{Held, Stored}
 use Rattle.op_low.specs.State.{State}
 use Rattle.op_low.specs.declared.ids.VirtualRegister.{VirtualRegister}
 use Rattle.op_low.specs.declared.instruction.Instruction.{Instruction as LowInstruction}

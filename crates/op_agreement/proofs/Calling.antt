@@ -9,9 +9,9 @@ use Rattle.op_compute.specs.declared.bank.RuntimeError.TheVariants.{StackOverflo
 use Rattle.op_core.proofs.Rows.{there_is}
 use Rattle.op_core.specs.declared.ids.RoutineId.{RoutineId}
 use Rattle.op_expand.specs.Calls.{call_code, charge_of, charging_code, givens_code, givens_in, receiver_code, receiver_of, receiver_spot, runtime, given_spot}
-use Rattle.op_expand.specs.Frames.{parameters_of}
-use Rattle.op_expand.specs.declared.frame.Frame.{Frame}
-use Rattle.op_expand.specs.declared.spot.Spot.{Spot}
+use Rattle.op_places.specs.Frames.{parameters_of}
+use Rattle.op_places.specs.declared.frame.Frame.{Frame}
+use Rattle.op_places.specs.declared.spot.Spot.{Spot}
 use Rattle.op_low.specs.Machine.{act, call as call_below, can_enter}
 use Rattle.op_low.specs.State.{Ending, Running, State, bad, block_of, routine_of, space, value_in}
 use Rattle.op_low.specs.declared.ids.VirtualRegister.{VirtualRegister}

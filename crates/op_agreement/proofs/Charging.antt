@@ -9,9 +9,9 @@ use Rattle.op_compute.specs.Bank.{error_block_of}
 use Rattle.op_compute.specs.Straight.{Away, Behind, alu_of, outcome, put, takes}
 use Rattle.op_compute.specs.declared.bank.RuntimeError.TheVariants.{StackOverflow}
 use Rattle.op_expand.specs.Calls.{charge_of, charging_code, runtime}
-use Rattle.op_expand.specs.Frames.{parameters_of}
-use Rattle.op_expand.specs.Homes.{parameter}
-use Rattle.op_expand.specs.declared.frame.Frame.{Frame}
+use Rattle.op_places.specs.Frames.{parameters_of}
+use Rattle.op_places.specs.Homes.{parameter}
+use Rattle.op_places.specs.declared.frame.Frame.{Frame}
 use Rattle.op_low.specs.State.{routine_of, space}
 use Rattle.op_low.specs.declared.ids.VirtualRegister.{VirtualRegister}
 use Rattle.op_meaning.specs.Calls.{Handed, begun, caller_of, entered}

@@ -8,7 +8,7 @@ use Rattle.op_constants.specs.Offsets.{size_in, alignment_in}
 use Rattle.op_core.proofs.OneType.{by_number}
 use Rattle.op_core.specs.Types.{is_same}
 use Rattle.op_expand.specs.Calls.{result_address}
-use Rattle.op_expand.specs.Homes.{home_at, is_one_root, offset_of}
+use Rattle.op_places.specs.Homes.{home_at, is_one_root, offset_of}
 use Rattle.op_low.specs.State.{Caller}
 use Rattle.op_meaning.specs.Values.{Value, Holder, global, local, temporary, object, Place, same_holder}
 use Rattle.op_mir.specs.Machine.{MirCaller}

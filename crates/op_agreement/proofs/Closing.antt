@@ -30,8 +30,8 @@ use Rattle.op_core.specs.declared.program.Core.{Core}
 use Rattle.op_core.specs.declared.program.Unit.{Unit as UnitRow}
 use Rattle.op_expand.specs.Calls.{closing_call, finalizations, finalizations_of, has_closing, is_there, left, result_address, return_code}
 use Rattle.op_expand.specs.Closing.{finding_code}
-use Rattle.op_expand.specs.Frames.{returning_of}
-use Rattle.op_expand.specs.declared.frame.Returning.TheVariants.{Ending as TheEnd}
+use Rattle.op_places.specs.Frames.{returning_of}
+use Rattle.op_places.specs.declared.frame.Returning.TheVariants.{Ending as TheEnd}
 use Rattle.op_low.specs.Machine.{act, exit, low_machine, shows, step, step_by_ending}
 use Rattle.op_low.specs.State.{Caller, State, Ended}
 use Rattle.op_low.specs.declared.ids.VirtualRegister.{VirtualRegister}

@@ -11,9 +11,9 @@ use Rattle.op_constants.specs.Lies.{Arrangement, IsArranged, Leads, Lies, arrang
 use Rattle.op_constants.specs.Offsets.{alignment_in, size_in}
 use Rattle.op_core.specs.declared.ids.TypeId.{TypeId}
 use Rattle.op_expand.specs.Calls.{result_address}
-use Rattle.op_expand.specs.Homes.{home_at}
-use Rattle.op_expand.specs.Moves.{by_words}
-use Rattle.op_expand.specs.declared.homes.Home.TheVariants.{Held, Stored}
+use Rattle.op_places.specs.Homes.{home_at}
+use Rattle.op_places.specs.Moves.{by_words}
+use Rattle.op_places.specs.declared.homes.Home.TheVariants.{Held, Stored}
 use Rattle.op_low.specs.State.{State}
 use Rattle.op_low.specs.declared.instruction.Instruction.{Instruction as LowInstruction}
 use Rattle.op_meaning.specs.Values.{Place, Value, local, part_of, put, same_holder}

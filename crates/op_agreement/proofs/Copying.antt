@@ -6,8 +6,8 @@ use Rattle.std.proofs.lemmas.Bool.{cond-true}
 use Rattle.std.proofs.lemmas.Bool.Decides.{nat_tests}
 use Rattle.op_compute.proofs.Registers.{put_lower, put_other, put_same}
 use Rattle.op_compute.specs.Straight.{at, put}
-use Rattle.op_expand.specs.Moves.{bytes_code, copy_number, is_short, unit_code, unit_load, unit_of, unit_store, units_code, units_in}
-use Rattle.op_expand.specs.declared.spot.Spot.{Spot}
+use Rattle.op_places.specs.Moves.{bytes_code, copy_number, is_short, unit_code, unit_load, unit_of, unit_store, units_code, units_in}
+use Rattle.op_places.specs.declared.spot.Spot.{Spot}
 use Rattle.op_low.specs.Machine.{act, load, store}
 use Rattle.op_low.specs.State.{State, bad, keep, usable}
 use Rattle.op_low.specs.declared.ids.VirtualRegister.{VirtualRegister}

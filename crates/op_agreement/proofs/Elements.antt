@@ -16,9 +16,9 @@ use Rattle.op_compute.specs.Straight.{Away, Outcome, alu_of, outcome, put, shift
 use Rattle.op_compute.specs.declared.bank.Operands.{Operands}
 use Rattle.op_compute.specs.declared.bank.RuntimeError.TheVariants.{RangeCheck}
 use Rattle.op_compute.specs.declared.bank.Work.{Work}
-use Rattle.op_expand.specs.Places.{after, behind_code, element_code, index_code, power_of, scale_code}
-use Rattle.op_expand.specs.declared.frame.Frame.{Frame}
-use Rattle.op_expand.specs.declared.spot.Spot.{Spot}
+use Rattle.op_places.specs.Places.{after, behind_code, element_code, index_code, power_of, scale_code}
+use Rattle.op_places.specs.declared.frame.Frame.{Frame}
+use Rattle.op_places.specs.declared.spot.Spot.{Spot}
 use Rattle.op_low.specs.declared.ids.VirtualRegister.{VirtualRegister}
 use Rattle.op_low.specs.declared.instruction.Instruction.TheVariants.{Alu, Branch, Const, Shift}
 use Rattle.op_low.specs.declared.instruction.Instruction.{Instruction}

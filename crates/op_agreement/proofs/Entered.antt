@@ -13,8 +13,8 @@ use Rattle.op_core.specs.Rows.{rows}
 use Rattle.op_core.specs.declared.ids.TypeId.{TypeId}
 use Rattle.op_core.specs.declared.routine.Variable.{Variable}
 use Rattle.op_expand.specs.Calls.{runtime}
-use Rattle.op_expand.specs.Homes.{home_at, offset_of, parameter}
-use Rattle.op_expand.specs.declared.homes.Home.TheVariants.{Held, Stored}
+use Rattle.op_places.specs.Homes.{home_at, offset_of, parameter}
+use Rattle.op_places.specs.declared.homes.Home.TheVariants.{Held, Stored}
 use Rattle.op_low.specs.Machine.{entered as entered_low}
 use Rattle.op_low.specs.State.{Caller, State, space}
 use Rattle.op_meaning.specs.Calls.{Handed, no_temps}

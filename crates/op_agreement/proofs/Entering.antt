@@ -9,10 +9,10 @@ use Rattle.op_core.specs.declared.ids.TypeId.{TypeId}
 use Rattle.op_core.specs.declared.program.Core.{Core}
 use Rattle.op_core.specs.declared.routine.Variable.{Variable}
 use Rattle.op_expand.specs.Calls.{runtime}
-use Rattle.op_expand.specs.Frames.{parameters_of}
-use Rattle.op_expand.specs.Homes.{home_at, parameter}
-use Rattle.op_expand.specs.declared.homes.Home.{Home}
-use Rattle.op_expand.specs.declared.homes.Home.TheVariants.{Held, Stored, Shared}
+use Rattle.op_places.specs.Frames.{parameters_of}
+use Rattle.op_places.specs.Homes.{home_at, parameter}
+use Rattle.op_places.specs.declared.homes.Home.{Home}
+use Rattle.op_places.specs.declared.homes.Home.TheVariants.{Held, Stored, Shared}
 use Rattle.op_low.specs.Machine.{entered as entered_low}
 use Rattle.op_low.specs.State.{Caller, State, routine_of, space}
 use Rattle.op_meaning.specs.Calls.{Handed, cleared, entered, given_all, no_temps}

@@ -15,10 +15,10 @@ use Rattle.op_core.proofs.Agreeing.{some_is}
 use Rattle.op_core.specs.declared.program.Core.{Core}
 use Rattle.op_expand.specs.Calls.{closing_number, has_closing, runtime}
 use Rattle.op_expand.specs.Closing.{closing_routine, closing_routines}
-use Rattle.op_expand.specs.Frames.{frame_of}
+use Rattle.op_places.specs.Frames.{frame_of}
 use Rattle.op_expand.specs.Programs.{low_of, routines_from}
 use Rattle.op_expand.specs.Routines.{all_blocks, beginning, blocks_of, code_of, error_block, error_blocks, error_code, low_parameters, low_routine, most_charge, routine_with}
-use Rattle.op_expand.specs.declared.frame.Frame.{Frame}
+use Rattle.op_places.specs.declared.frame.Frame.{Frame}
 use Rattle.op_low.specs.State.{block_of, code_or, routine_or}
 use Rattle.op_low.specs.declared.code.Block.{Block as LowBlock}
 use Rattle.op_low.specs.declared.code.Routine.{Routine as LowRoutine}

@@ -11,11 +11,11 @@ use Rattle.op_core.specs.declared.ids.RoutineId.{RoutineId}
 use Rattle.op_core.specs.declared.program.Core.{Core}
 use Rattle.op_expand.specs.Calls.{charge_of, charging_code, closing_number, finalizations, has_closing, left, result_address, runtime}
 use Rattle.op_expand.specs.Closing.{closing_routine, due, due_for, number, part_blocks, part_code}
-use Rattle.op_expand.specs.Frames.{frame_of, parameters_of}
-use Rattle.op_expand.specs.Homes.{parameter}
+use Rattle.op_places.specs.Frames.{frame_of, parameters_of}
+use Rattle.op_places.specs.Homes.{parameter}
 use Rattle.op_expand.specs.Routines.{error_block, error_code, most_charge}
-use Rattle.op_expand.specs.declared.frame.Frame.{Frame}
-use Rattle.op_expand.specs.declared.frame.Returning.TheVariants.{Nothing}
+use Rattle.op_places.specs.declared.frame.Frame.{Frame}
+use Rattle.op_places.specs.declared.frame.Returning.TheVariants.{Nothing}
 use Rattle.op_low.specs.Machine.{act, call as call_below, can_enter, exit}
 use Rattle.op_low.specs.State.{Caller, State, Ended, bad, block_of, code_or, routine_of, space}
 use Rattle.op_low.specs.declared.code.Block.{Block as LowBlock}

@@ -6,9 +6,9 @@ use Rattle.op_constants.specs.Offsets.{size_in}
 use Rattle.op_core.specs.Rows.{rows}
 use Rattle.op_core.specs.declared.ids.TypeId.{TypeId}
 use Rattle.op_core.specs.declared.program.Core.{Core}
-use Rattle.op_expand.specs.Frames.{first_room, frame_of, parameters_of}
-use Rattle.op_expand.specs.Homes.{is_one_root, offset_of, roots_of, rounded}
-use Rattle.op_expand.specs.declared.frame.Frame.{Frame}
+use Rattle.op_places.specs.Frames.{first_room, frame_of, parameters_of}
+use Rattle.op_places.specs.Homes.{is_one_root, offset_of, roots_of, rounded}
+use Rattle.op_places.specs.declared.frame.Frame.{Frame}
 use Rattle.op_meaning.specs.Shapes.{type_of_local, variables_of}
 use Rattle.op_mir.specs.declared.code.Routine.{Routine}
 use Rattle.op_mir.specs.declared.ids.LocalId.{LocalId}

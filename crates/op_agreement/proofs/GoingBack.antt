@@ -5,8 +5,8 @@ use Rattle.std.proofs.lemmas.Bool.Decides.{nat_tests}
 use Rattle.op_compute.specs.Straight.{at}
 use Rattle.op_expand.specs.Calls.{finalizations, left, result_address, return_code, runtime}
 use Rattle.op_expand.specs.Closing.{finding_code}
-use Rattle.op_expand.specs.Frames.{returning_of}
-use Rattle.op_expand.specs.declared.frame.Returning.TheVariants.{Nothing}
+use Rattle.op_places.specs.Frames.{returning_of}
+use Rattle.op_places.specs.declared.frame.Returning.TheVariants.{Nothing}
 use Rattle.op_low.specs.Machine.{act, return_to}
 use Rattle.op_low.specs.State.{Activation, Caller, State, Running, code_or, routine_of, space}
 use Rattle.op_low.specs.declared.code.Routine.{Routine as LowRoutine}

@@ -10,15 +10,15 @@ use Rattle.op_core.proofs.Rows.{row_at, row_of}
 use Rattle.op_core.specs.Rows.{rows}
 use Rattle.op_core.specs.declared.program.Core.{Core}
 use Rattle.op_core.specs.declared.routine.Variable.{Variable}
-use Rattle.op_expand.proofs.RoomLemmas.{room_grows}
-use Rattle.op_expand.specs.Frames.{first_room, frame_of, parameters_of}
-use Rattle.op_expand.specs.Homes.{home_at, home_by, homes_from, is_one_root, keeping_of, parameter, room_behind, room_by, roots_of}
-use Rattle.op_expand.specs.declared.frame.Frame.{Frame}
-use Rattle.op_expand.specs.declared.homes.Home.{Home}
-use Rattle.op_expand.specs.declared.homes.Home.TheVariants.{Held, Stored, Shared}
-use Rattle.op_expand.specs.declared.homes.Keeping.{Keeping}
-use Rattle.op_expand.specs.declared.homes.Keeping.TheVariants.{AsGiven, InRegister, InMemory}
-use Rattle.op_expand.specs.declared.homes.Room.{Room}
+use Rattle.op_places.proofs.RoomLemmas.{room_grows}
+use Rattle.op_places.specs.Frames.{first_room, frame_of, parameters_of}
+use Rattle.op_places.specs.Homes.{home_at, home_by, homes_from, is_one_root, keeping_of, parameter, room_behind, room_by, roots_of}
+use Rattle.op_places.specs.declared.frame.Frame.{Frame}
+use Rattle.op_places.specs.declared.homes.Home.{Home}
+use Rattle.op_places.specs.declared.homes.Home.TheVariants.{Held, Stored, Shared}
+use Rattle.op_places.specs.declared.homes.Keeping.{Keeping}
+use Rattle.op_places.specs.declared.homes.Keeping.TheVariants.{AsGiven, InRegister, InMemory}
+use Rattle.op_places.specs.declared.homes.Room.{Room}
 use Rattle.op_meaning.specs.Shapes.{is_reference, refers, shape_of, variables_of}
 use Rattle.op_mir.specs.declared.code.Routine.{Routine}
 use Rattle.op_mir.specs.declared.path.Root.{Root}

@@ -12,11 +12,11 @@ use Rattle.op_compute.specs.declared.bank.RuntimeError.TheVariants.{RangeCheck}
 use Rattle.op_constants.specs.Reaching.{Reaches}
 use Rattle.op_core.specs.declared.ids.TypeId.{TypeId}
 use Rattle.op_core.specs.declared.types.IntegerKind.{IntegerKind}
-use Rattle.op_expand.specs.Homes.{home_at}
-use Rattle.op_expand.specs.Moves.{held_by, load_op, near}
-use Rattle.op_expand.specs.Places.{place_code, place_of}
-use Rattle.op_expand.specs.declared.homes.Home.TheVariants.{Held, Stored as StoredHome, Shared}
-use Rattle.op_expand.specs.declared.homes.Home.{Home}
+use Rattle.op_places.specs.Homes.{home_at}
+use Rattle.op_places.specs.Moves.{held_by, load_op, near}
+use Rattle.op_places.specs.Places.{place_code, place_of}
+use Rattle.op_places.specs.declared.homes.Home.TheVariants.{Held, Stored as StoredHome, Shared}
+use Rattle.op_places.specs.declared.homes.Home.{Home}
 use Rattle.op_low.specs.State.{State, block_of}
 use Rattle.op_low.specs.declared.ids.VirtualRegister.{VirtualRegister}
 use Rattle.op_low.specs.declared.instruction.Instruction.TheVariants.{Load as LoadWord, Move}
@@ -75,7 +75,7 @@ module _ (g : Setting) (fit : IsFitting g) (m : MirState) (l : State) (floors : 
   abbrev NextIs : Instruction → Type 0
   NextIs i = Next g m l floors i is
 
-  abbrev frame : Rattle.op_expand.specs.declared.frame.Frame.Frame
+  abbrev frame : Rattle.op_places.specs.declared.frame.Frame.Frame
   frame = (here m floors).frame
 
   -- a variable with parts, or one that is not held in a register

@@ -18,12 +18,12 @@ use Rattle.op_agreement.specs.Steps.{Comes, most_for_one}
 use Rattle.op_compute.proofs.Registers.{put_lower}
 use Rattle.op_compute.specs.Bank.{scratch_of}
 use Rattle.op_compute.specs.Straight.{at, fewest_steps, put}
-use Rattle.op_expand.specs.Homes.{home_at}
-use Rattle.op_expand.specs.Moves.{near}
-use Rattle.op_expand.specs.Places.{home_code, home_spot, place_code, place_of, reach_code}
-use Rattle.op_expand.specs.declared.frame.Frame.{Frame}
-use Rattle.op_expand.specs.declared.homes.Home.{Home}
-use Rattle.op_expand.specs.declared.homes.Home.TheVariants.{Held, Stored, Shared}
+use Rattle.op_places.specs.Homes.{home_at}
+use Rattle.op_places.specs.Moves.{near}
+use Rattle.op_places.specs.Places.{home_code, home_spot, place_code, place_of, reach_code}
+use Rattle.op_places.specs.declared.frame.Frame.{Frame}
+use Rattle.op_places.specs.declared.homes.Home.{Home}
+use Rattle.op_places.specs.declared.homes.Home.TheVariants.{Held, Stored, Shared}
 use Rattle.op_low.specs.Machine.{act}
 use Rattle.op_low.specs.State.{State}
 use Rattle.op_low.specs.declared.ids.VirtualRegister.{VirtualRegister}

@@ -18,7 +18,7 @@ use Rattle.op_core.specs.declared.ids.TypeId.{TypeId}
 use Rattle.op_core.specs.declared.program.Core.{Core}
 use Rattle.op_core.specs.declared.types.IntegerKind.TheVariants.{Signed8, Unsigned8, Signed16, Unsigned16, Signed32}
 use Rattle.op_core.specs.declared.types.IntegerKind.{IntegerKind}
-use Rattle.op_expand.specs.Moves.{load_op, store_op}
+use Rattle.op_places.specs.Moves.{load_op, store_op}
 use Rattle.op_low.specs.Machine.{act, load, store}
 use Rattle.op_low.specs.State.{State, bad, keep, usable}
 use Rattle.op_low.specs.declared.ids.VirtualRegister.{VirtualRegister}

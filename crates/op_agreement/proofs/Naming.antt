@@ -10,9 +10,9 @@ use Rattle.op_core.specs.Rows.{rows}
 use Rattle.op_core.specs.declared.ids.TypeId.{TypeId}
 use Rattle.op_core.specs.declared.program.Core.{Core}
 use Rattle.op_core.specs.declared.routine.Variable.{Variable}
-use Rattle.op_expand.proofs.RoomLemmas.{temporary_is}
-use Rattle.op_expand.specs.Frames.{parameters_of}
-use Rattle.op_expand.specs.Homes.{is_one_root, roots_of, with_action, with_block, with_given, with_instruction, with_place, with_receiver, with_root, with_temporary}
+use Rattle.op_places.proofs.RoomLemmas.{temporary_is}
+use Rattle.op_places.specs.Frames.{parameters_of}
+use Rattle.op_places.specs.Homes.{is_one_root, roots_of, with_action, with_block, with_given, with_instruction, with_place, with_receiver, with_root, with_temporary}
 use Rattle.op_meaning.specs.Expressions.{result_of}
 use Rattle.op_meaning.specs.Paths.{Step as MeantStep, in_temporary}
 use Rattle.op_meaning.specs.Shapes.{type_of_local, variables_of}

@@ -8,7 +8,7 @@ use Rattle.op_constants.specs.Offsets.{size_in}
 use Rattle.op_constants.specs.Shapes.{is_composite}
 use Rattle.op_core.proofs.Rows.{there_is}
 use Rattle.op_expand.specs.Calls.{runtime}
-use Rattle.op_expand.specs.Frames.{frame_of}
+use Rattle.op_places.specs.Frames.{frame_of}
 use Rattle.op_expand.specs.Routines.{most_charge}
 use Rattle.op_low.specs.State.{Caller, State, routine_of, space}
 use Rattle.op_meaning.specs.Calls.{called_with, caller_of, entered}

@@ -33,12 +33,12 @@ use Rattle.op_constants.specs.Shapes.{is_composite}
 use Rattle.op_core.specs.declared.ids.TypeId.{TypeId}
 use Rattle.op_core.specs.declared.program.Core.{Core}
 use Rattle.op_expand.specs.Calls.{left, number_code, parts_code, result_address}
-use Rattle.op_expand.specs.Homes.{home_at, parameter}
-use Rattle.op_expand.specs.Moves.{by_words, bytes_code, limit_of}
-use Rattle.op_expand.specs.Places.{at_register, at_scratch, home_code, home_spot, reach_code, reached, stored_code}
-use Rattle.op_expand.specs.declared.frame.Frame.{Frame}
-use Rattle.op_expand.specs.declared.homes.Home.TheVariants.{Stored}
-use Rattle.op_expand.specs.declared.spot.Spot.{Spot}
+use Rattle.op_places.specs.Homes.{home_at, parameter}
+use Rattle.op_places.specs.Moves.{by_words, bytes_code, limit_of}
+use Rattle.op_places.specs.Places.{at_register, at_scratch, home_code, home_spot, reach_code, reached, stored_code}
+use Rattle.op_places.specs.declared.frame.Frame.{Frame}
+use Rattle.op_places.specs.declared.homes.Home.TheVariants.{Stored}
+use Rattle.op_places.specs.declared.spot.Spot.{Spot}
 use Rattle.op_low.specs.Machine.{act}
 use Rattle.op_low.specs.State.{Caller, State}
 use Rattle.op_low.specs.declared.instruction.Instruction.{Instruction as LowInstruction}

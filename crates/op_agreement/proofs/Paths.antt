@@ -14,12 +14,12 @@ use Rattle.op_constants.specs.Lies.{Leads, arrangement_of}
 use Rattle.op_constants.specs.Offsets.{size_in}
 use Rattle.op_constants.specs.Reaching.{distance}
 use Rattle.op_core.specs.declared.ids.TypeId.{TypeId}
-use Rattle.op_expand.specs.Homes.{home_at, offset_of, parameter}
-use Rattle.op_expand.specs.Places.{home_code, home_of, home_spot, place_code, place_of, reach_code, steps_code, steps_spot}
-use Rattle.op_expand.specs.declared.frame.Frame.{Frame}
-use Rattle.op_expand.specs.declared.homes.Home.TheVariants.{Held, Stored}
-use Rattle.op_expand.specs.declared.homes.Home.{Home}
-use Rattle.op_expand.specs.declared.spot.Spot.{Spot}
+use Rattle.op_places.specs.Homes.{home_at, offset_of, parameter}
+use Rattle.op_places.specs.Places.{home_code, home_of, home_spot, place_code, place_of, reach_code, steps_code, steps_spot}
+use Rattle.op_places.specs.declared.frame.Frame.{Frame}
+use Rattle.op_places.specs.declared.homes.Home.TheVariants.{Held, Stored}
+use Rattle.op_places.specs.declared.homes.Home.{Home}
+use Rattle.op_places.specs.declared.spot.Spot.{Spot}
 use Rattle.op_low.specs.Machine.{act}
 use Rattle.op_low.specs.State.{State, block_of, routine_of}
 use Rattle.op_low.specs.declared.ids.VirtualRegister.{VirtualRegister}

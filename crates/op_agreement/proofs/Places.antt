@@ -22,9 +22,9 @@ use Rattle.op_constants.specs.Offsets.{element_size, field_offset, size_in}
 use Rattle.op_constants.specs.Reaching.{Reaches, distance}
 use Rattle.op_core.specs.Sizes.{type_at}
 use Rattle.op_core.specs.declared.ids.TypeId.{TypeId}
-use Rattle.op_expand.specs.Places.{after, at_scratch, reach_code, reached, step_code, steps_code, steps_spot}
-use Rattle.op_expand.specs.declared.frame.Frame.{Frame}
-use Rattle.op_expand.specs.declared.spot.Spot.{Spot}
+use Rattle.op_places.specs.Places.{after, at_scratch, reach_code, reached, step_code, steps_code, steps_spot}
+use Rattle.op_places.specs.declared.frame.Frame.{Frame}
+use Rattle.op_places.specs.declared.spot.Spot.{Spot}
 use Rattle.op_low.specs.State.{State}
 use Rattle.op_low.specs.declared.instruction.Instruction.{Instruction}
 use Rattle.op_meaning.specs.Paths.{Step as MeantStep, field, element, place_from}

@@ -37,10 +37,10 @@ use Rattle.op_constants.proofs.TypesArranged.{type_is_arranged}
 use Rattle.op_constants.specs.Lies.{arrangement_of}
 use Rattle.op_constants.specs.Literals.{literals_of, operands_literals}
 use Rattle.op_constants.specs.Texts.{number_of}
-use Rattle.op_expand.proofs.PrimitiveRows.{served}
+use Rattle.op_primitives.proofs.PrimitiveRows.{served}
 use Rattle.op_expand.specs.Calls.{result_address}
-use Rattle.op_expand.specs.Primitives.{destination_register, operands_code, operands_passed, routine_of}
-use Rattle.op_expand.specs.declared.frame.Frame.{Frame}
+use Rattle.op_primitives.specs.Primitives.{destination_register, operands_code, operands_passed, routine_of}
+use Rattle.op_places.specs.declared.frame.Frame.{Frame}
 use Rattle.op_low.specs.Machine.{act, low_machine, cost, cost_by}
 use Rattle.op_low.specs.State.{State}
 use Rattle.op_low.specs.declared.ids.VirtualRegister.{VirtualRegister}

@@ -14,12 +14,12 @@ use Rattle.op_core.specs.Sizes.{type_at}
 use Rattle.op_core.specs.declared.ids.TypeId.{TypeId}
 use Rattle.op_core.specs.declared.types.IntegerKind.{IntegerKind}
 use Rattle.op_core.specs.declared.types.IntegerKind.TheVariants.{Signed32}
-use Rattle.op_expand.specs.Homes.{home_at}
-use Rattle.op_expand.specs.Moves.{near, store_op}
-use Rattle.op_expand.specs.Places.{place_code, place_of}
-use Rattle.op_expand.specs.declared.frame.Frame.{Frame}
-use Rattle.op_expand.specs.declared.homes.Home.TheVariants.{Stored}
-use Rattle.op_expand.specs.declared.spot.Spot.{Spot}
+use Rattle.op_places.specs.Homes.{home_at}
+use Rattle.op_places.specs.Moves.{near, store_op}
+use Rattle.op_places.specs.Places.{place_code, place_of}
+use Rattle.op_places.specs.declared.frame.Frame.{Frame}
+use Rattle.op_places.specs.declared.homes.Home.TheVariants.{Stored}
+use Rattle.op_places.specs.declared.spot.Spot.{Spot}
 use Rattle.op_low.specs.State.{State}
 use Rattle.op_low.specs.declared.ids.VirtualRegister.{VirtualRegister}
 use Rattle.op_low.specs.declared.instruction.Instruction.{Instruction as LowInstruction}

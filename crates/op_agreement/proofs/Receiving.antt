@@ -13,14 +13,14 @@ use Rattle.op_constants.specs.Shapes.{is_composite}
 use Rattle.op_core.specs.declared.program.Core.{Core}
 use Rattle.op_core.specs.declared.routine.Variable.{Variable}
 use Rattle.op_core.specs.declared.types.IntegerKind.{IntegerKind}
-use Rattle.op_expand.specs.Homes.{home_at, parameter, rounded}
-use Rattle.op_expand.specs.Moves.{held_by, near, store_op, taken_code}
-use Rattle.op_expand.specs.Places.{place_code, place_of}
+use Rattle.op_places.specs.Homes.{home_at, parameter, rounded}
+use Rattle.op_places.specs.Moves.{held_by, near, store_op, taken_code}
+use Rattle.op_places.specs.Places.{place_code, place_of}
 use Rattle.op_expand.specs.Routines.{received, received_number}
-use Rattle.op_expand.specs.declared.frame.Frame.{Frame}
-use Rattle.op_expand.specs.declared.homes.Home.{Home}
-use Rattle.op_expand.specs.declared.homes.Home.TheVariants.{Held, Stored as StoredHome, Shared}
-use Rattle.op_expand.specs.declared.spot.Spot.{Spot}
+use Rattle.op_places.specs.declared.frame.Frame.{Frame}
+use Rattle.op_places.specs.declared.homes.Home.{Home}
+use Rattle.op_places.specs.declared.homes.Home.TheVariants.{Held, Stored as StoredHome, Shared}
+use Rattle.op_places.specs.declared.spot.Spot.{Spot}
 use Rattle.op_low.specs.State.{Caller, State}
 use Rattle.op_low.specs.declared.ids.VirtualRegister.{VirtualRegister}
 use Rattle.op_low.specs.declared.instruction.Instruction.{Instruction as LowInstruction}

@@ -13,14 +13,14 @@ use Rattle.op_core.specs.declared.ids.TypeId.{TypeId}
 use Rattle.op_core.specs.declared.program.Core.{Core}
 use Rattle.op_core.specs.declared.types.IntegerKind.{IntegerKind}
 use Rattle.op_expand.specs.Calls.{left, number_code, receiver_of, result_code, return_code}
-use Rattle.op_expand.specs.Frames.{returning_of}
-use Rattle.op_expand.specs.Homes.{home_at}
-use Rattle.op_expand.specs.Moves.{held_by, load_op, near}
-use Rattle.op_expand.specs.Places.{home_code, home_spot, reach_code, reached}
-use Rattle.op_expand.specs.declared.frame.Frame.{Frame}
-use Rattle.op_expand.specs.declared.frame.Returning.TheVariants.{Result}
-use Rattle.op_expand.specs.declared.homes.Home.TheVariants.{Held, Stored, Shared}
-use Rattle.op_expand.specs.declared.homes.Home.{Home}
+use Rattle.op_places.specs.Frames.{returning_of}
+use Rattle.op_places.specs.Homes.{home_at}
+use Rattle.op_places.specs.Moves.{held_by, load_op, near}
+use Rattle.op_places.specs.Places.{home_code, home_spot, reach_code, reached}
+use Rattle.op_places.specs.declared.frame.Frame.{Frame}
+use Rattle.op_places.specs.declared.frame.Returning.TheVariants.{Result}
+use Rattle.op_places.specs.declared.homes.Home.TheVariants.{Held, Stored, Shared}
+use Rattle.op_places.specs.declared.homes.Home.{Home}
 use Rattle.op_low.specs.Machine.{act}
 use Rattle.op_low.specs.State.{Caller, State, routine_of}
 use Rattle.op_low.specs.declared.ids.VirtualRegister.{VirtualRegister}

@@ -8,10 +8,10 @@ use Rattle.op_constants.specs.Arranged.{IsSmall}
 use Rattle.op_core.specs.declared.ids.TypeId.{TypeId}
 use Rattle.op_core.specs.declared.program.Core.{Core}
 use Rattle.op_expand.specs.Calls.{receiver_code, receiver_spot, left}
-use Rattle.op_expand.specs.Homes.{offset_of}
-use Rattle.op_expand.specs.Places.{at_register, at_scratch, place_code, place_of}
-use Rattle.op_expand.specs.declared.frame.Frame.{Frame}
-use Rattle.op_expand.specs.declared.spot.Spot.{Spot}
+use Rattle.op_places.specs.Homes.{offset_of}
+use Rattle.op_places.specs.Places.{at_register, at_scratch, place_code, place_of}
+use Rattle.op_places.specs.declared.frame.Frame.{Frame}
+use Rattle.op_places.specs.declared.spot.Spot.{Spot}
 use Rattle.op_low.specs.State.{Caller, State}
 use Rattle.op_low.specs.declared.ids.VirtualRegister.{VirtualRegister}
 use Rattle.op_low.specs.declared.instruction.Instruction.{Instruction as LowInstruction}

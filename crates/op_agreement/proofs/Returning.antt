@@ -8,9 +8,9 @@ use Rattle.op_compute.specs.Straight.{at}
 use Rattle.op_core.specs.declared.ids.TypeId.{TypeId}
 use Rattle.op_core.specs.declared.program.Core.{Core}
 use Rattle.op_expand.specs.Calls.{left, receiver_of, result_address, return_code, runtime}
-use Rattle.op_expand.specs.Frames.{returning_of}
-use Rattle.op_expand.specs.declared.frame.Frame.{Frame}
-use Rattle.op_expand.specs.declared.frame.Returning.TheVariants.{Nothing}
+use Rattle.op_places.specs.Frames.{returning_of}
+use Rattle.op_places.specs.declared.frame.Frame.{Frame}
+use Rattle.op_places.specs.declared.frame.Returning.TheVariants.{Nothing}
 use Rattle.op_low.specs.Machine.{act, return_to}
 use Rattle.op_low.specs.declared.instruction.Instruction.TheVariants.{Return as LowReturn}
 use Rattle.op_low.specs.declared.instruction.Instruction.{Instruction as LowInstruction}

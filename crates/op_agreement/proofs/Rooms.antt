@@ -6,11 +6,11 @@ use Rattle.op_constants.specs.Offsets.{size_in}
 use Rattle.op_core.specs.declared.ids.TypeId.{TypeId}
 use Rattle.op_core.specs.declared.program.Core.{Core}
 use Rattle.op_core.specs.declared.routine.Variable.{Variable}
-use Rattle.op_expand.proofs.RoomLemmas.{one_with_both, room_whole, rounded_whole, sum_whole, temporary_is}
-use Rattle.op_expand.specs.Homes.{end_of, home_at, home_by, homes_from, is_one_root, keeping_of, offset_of, room_behind, room_by, rounded, size_of_root}
-use Rattle.op_expand.specs.declared.homes.Keeping.{Keeping}
-use Rattle.op_expand.specs.declared.homes.Keeping.TheVariants.{AsGiven, InRegister, InMemory}
-use Rattle.op_expand.specs.declared.homes.Room.{Room}
+use Rattle.op_places.proofs.RoomLemmas.{one_with_both, room_whole, rounded_whole, sum_whole, temporary_is}
+use Rattle.op_places.specs.Homes.{end_of, home_at, home_by, homes_from, is_one_root, keeping_of, offset_of, room_behind, room_by, rounded, size_of_root}
+use Rattle.op_places.specs.declared.homes.Keeping.{Keeping}
+use Rattle.op_places.specs.declared.homes.Keeping.TheVariants.{AsGiven, InRegister, InMemory}
+use Rattle.op_places.specs.declared.homes.Room.{Room}
 use Rattle.op_mir.specs.declared.path.Root.{Root}
 use Rattle.op_mir.specs.declared.path.Root.TheVariants.{Global, Local, Through, Temporary}
 

@@ -4,9 +4,9 @@ use Rattle.std.proofs.lemmas.Bool.{eq-eqb, or_left, or_right}
 use Rattle.std.proofs.lemmas.List.Folds.{list_any-append}
 use Rattle.std.specs.List.{list_any}
 use Rattle.op_core.specs.declared.program.Core.{Core}
-use Rattle.op_expand.proofs.RoomLemmas.{one_with_itself}
-use Rattle.op_expand.specs.Frames.{frame_of}
-use Rattle.op_expand.specs.Homes.{is_one_root, roots_of, with_action, with_block, with_call, with_given, with_instruction, with_place, with_receiver, with_root, with_temporary}
+use Rattle.op_places.proofs.RoomLemmas.{one_with_itself}
+use Rattle.op_places.specs.Frames.{frame_of}
+use Rattle.op_places.specs.Homes.{is_one_root, roots_of, with_action, with_block, with_call, with_given, with_instruction, with_place, with_receiver, with_root, with_temporary}
 use Rattle.op_mir.specs.declared.action.Action.TheVariants.{Constant, Load, Store, Copy, Look, BeginWith, Pick, Compute, Do}
 use Rattle.op_mir.specs.declared.action.Action.{Action}
 use Rattle.op_mir.specs.declared.code.Block.{Block}

@@ -6,15 +6,15 @@ use Rattle.op_constants.specs.Offsets.{size_in}
 use Rattle.op_core.specs.Rows.{rows}
 use Rattle.op_core.specs.declared.program.Core.{Core}
 use Rattle.op_core.specs.declared.routine.Variable.{Variable}
-use Rattle.op_expand.proofs.RoomLemmas.{behind_grows, room_grows}
-use Rattle.op_expand.specs.Frames.{bank_of, first_room, frame_of, parameters_of, spare_from, variables_room}
-use Rattle.op_expand.specs.Homes.{home_at, home_by, homes_from, keeping_of, parameter, room_by, roots_of}
-use Rattle.op_expand.specs.declared.frame.Frame.{Frame}
-use Rattle.op_expand.specs.declared.homes.Home.TheVariants.{Held, Stored, Shared}
-use Rattle.op_expand.specs.declared.homes.Home.{Home}
-use Rattle.op_expand.specs.declared.homes.Keeping.TheVariants.{AsGiven, InRegister, InMemory}
-use Rattle.op_expand.specs.declared.homes.Keeping.{Keeping}
-use Rattle.op_expand.specs.declared.homes.Room.{Room}
+use Rattle.op_places.proofs.RoomLemmas.{behind_grows, room_grows}
+use Rattle.op_places.specs.Frames.{bank_of, first_room, frame_of, parameters_of, spare_from, variables_room}
+use Rattle.op_places.specs.Homes.{home_at, home_by, homes_from, keeping_of, parameter, room_by, roots_of}
+use Rattle.op_places.specs.declared.frame.Frame.{Frame}
+use Rattle.op_places.specs.declared.homes.Home.TheVariants.{Held, Stored, Shared}
+use Rattle.op_places.specs.declared.homes.Home.{Home}
+use Rattle.op_places.specs.declared.homes.Keeping.TheVariants.{AsGiven, InRegister, InMemory}
+use Rattle.op_places.specs.declared.homes.Keeping.{Keeping}
+use Rattle.op_places.specs.declared.homes.Room.{Room}
 use Rattle.op_low.specs.declared.ids.VirtualRegister.{VirtualRegister}
 use Rattle.op_meaning.specs.Shapes.{variables_of}
 use Rattle.op_mir.specs.declared.code.Routine.{Routine}

@@ -4,9 +4,9 @@ use Rattle.std.specs.Prelude.{Bool, true, false, nat_le, if◌then◌else◌}
 use Rattle.op_constants.specs.Offsets.{field_offset}
 use Rattle.op_core.specs.declared.ids.TypeId.{TypeId}
 use Rattle.op_core.specs.declared.program.Core.{Core}
-use Rattle.op_expand.specs.Homes.{parameter}
-use Rattle.op_expand.specs.Places.{after, at_register, at_scratch, home_of, home_spot, place_of, reached, steps_spot}
-use Rattle.op_expand.specs.declared.spot.Spot.{Spot}
+use Rattle.op_places.specs.Homes.{parameter}
+use Rattle.op_places.specs.Places.{after, at_register, at_scratch, home_of, home_spot, place_of, reached, steps_spot}
+use Rattle.op_places.specs.declared.spot.Spot.{Spot}
 use Rattle.op_low.specs.State.{State}
 use Rattle.op_low.specs.declared.ids.VirtualRegister.{VirtualRegister}
 use Rattle.op_mir.specs.Machine.{MirState}

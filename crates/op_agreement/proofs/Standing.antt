@@ -5,8 +5,8 @@ use Rattle.std.specs.List.{flat_map}
 use Rattle.op_compute.specs.Meaning.{IsWordOf}
 use Rattle.op_compute.specs.Straight.{at}
 use Rattle.op_constants.specs.Literals.{instruction_literals, literals_of}
-use Rattle.op_expand.specs.Homes.{home_at, parameter}
-use Rattle.op_expand.specs.declared.homes.Home.TheVariants.{Held}
+use Rattle.op_places.specs.Homes.{home_at, parameter}
+use Rattle.op_places.specs.declared.homes.Home.TheVariants.{Held}
 use Rattle.op_low.specs.State.{State}
 use Rattle.op_low.specs.declared.instruction.Instruction.{Instruction as LowInstruction}
 use Rattle.op_meaning.specs.Shapes.{variables_of}

@@ -20,10 +20,10 @@ use Rattle.op_core.specs.declared.program.Core.{Core}
 use Rattle.op_core.specs.declared.program.Unit.{Unit as UnitRow}
 use Rattle.op_core.specs.declared.types.IntegerKind.TheVariants.{Signed32}
 use Rattle.op_expand.specs.Calls.{finalizations, finalizations_of, left, runtime}
-use Rattle.op_expand.specs.Frames.{frame_of}
-use Rattle.op_expand.specs.Homes.{offset_of}
+use Rattle.op_places.specs.Frames.{frame_of}
+use Rattle.op_places.specs.Homes.{offset_of}
 use Rattle.op_expand.specs.Routines.{begun_with_stack, beginning, code_of}
-use Rattle.op_expand.specs.declared.frame.Returning.TheVariants.{Ending as TheEnd}
+use Rattle.op_places.specs.declared.frame.Returning.TheVariants.{Ending as TheEnd}
 use Rattle.op_low.specs.Machine.{act, load, start}
 use Rattle.op_low.specs.State.{State, Running, bad, block_of, keep, routine_of, space}
 use Rattle.op_low.specs.declared.instruction.Instruction.TheVariants.{Address, Load}

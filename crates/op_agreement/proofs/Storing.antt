@@ -15,11 +15,11 @@ use Rattle.op_core.specs.declared.ids.TypeId.{TypeId}
 use Rattle.op_core.specs.declared.types.IntegerKind.TheVariants.{Signed8, Unsigned8, Signed16, Unsigned16, Signed32}
 use Rattle.op_core.specs.declared.types.IntegerKind.{IntegerKind}
 use Rattle.op_expand.specs.Calls.{result_address}
-use Rattle.op_expand.specs.Homes.{home_at, parameter}
-use Rattle.op_expand.specs.Moves.{held_by, near, store_op}
-use Rattle.op_expand.specs.Places.{place_code, place_of}
-use Rattle.op_expand.specs.declared.homes.Home.TheVariants.{Held, Stored as StoredHome, Shared}
-use Rattle.op_expand.specs.declared.homes.Home.{Home}
+use Rattle.op_places.specs.Homes.{home_at, parameter}
+use Rattle.op_places.specs.Moves.{held_by, near, store_op}
+use Rattle.op_places.specs.Places.{place_code, place_of}
+use Rattle.op_places.specs.declared.homes.Home.TheVariants.{Held, Stored as StoredHome, Shared}
+use Rattle.op_places.specs.declared.homes.Home.{Home}
 use Rattle.op_low.specs.State.{State}
 use Rattle.op_low.specs.declared.ids.VirtualRegister.{VirtualRegister}
 use Rattle.op_low.specs.declared.instruction.Instruction.TheVariants.{Const, Store as StoreWord}
@@ -178,7 +178,7 @@ module _ (g : Setting) (fit : IsFitting g) (m : MirState) (l : State) (floors : 
   abbrev NextIs : Instruction → Type 0
   NextIs i = Next g m l floors i is
 
-  abbrev frame : Rattle.op_expand.specs.declared.frame.Frame.Frame
+  abbrev frame : Rattle.op_places.specs.declared.frame.Frame.Frame
   frame = (here m floors).frame
 
   module _ (kind : IntegerKind) (from : TemporaryId) where
@@ -234,7 +234,7 @@ module _ (g : Setting) (fit : IsFitting g) (m : MirState) (l : State) (floors : 
     abbrev store_code_placed : Path → List LowInstruction
     store_code_placed path = place_code g.core frame near path.root path.steps (scratch_of frame.bank 0)
 
-    abbrev spot_placed : Path → Rattle.op_expand.specs.declared.spot.Spot.Spot
+    abbrev spot_placed : Path → Rattle.op_places.specs.declared.spot.Spot.Spot
     spot_placed path = place_of g.core frame near path.root path.steps (scratch_of frame.bank 0)
 
     abbrev sw : Path → LowInstruction

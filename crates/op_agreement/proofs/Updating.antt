@@ -12,8 +12,8 @@ use Rattle.op_constants.specs.Lies.{Arrangement, IsArranged, Leads, Lies, arrang
 use Rattle.op_constants.specs.Offsets.{size_in}
 use Rattle.op_core.specs.declared.ids.TypeId.{TypeId}
 use Rattle.op_expand.specs.Calls.{result_address}
-use Rattle.op_expand.specs.Homes.{home_at, offset_of, parameter}
-use Rattle.op_expand.specs.declared.homes.Home.TheVariants.{Held, Stored}
+use Rattle.op_places.specs.Homes.{home_at, offset_of, parameter}
+use Rattle.op_places.specs.declared.homes.Home.TheVariants.{Held, Stored}
 use Rattle.op_low.specs.State.{Activation, Caller, State}
 use Rattle.op_low.specs.declared.instruction.Instruction.{Instruction as LowInstruction}
 use Rattle.op_meaning.specs.Shapes.{type_of_local}

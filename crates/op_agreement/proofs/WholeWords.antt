@@ -5,7 +5,7 @@ use Rattle.std.specs.Int.{bytes_low_first}
 use Rattle.std.proofs.lemmas.Bool.{cond-true, cases_lt}
 use Rattle.std.proofs.lemmas.Grind.{div_ceil_times}
 use Rattle.op_compute.specs.Straight.{at}
-use Rattle.op_expand.specs.Homes.{rounded}
+use Rattle.op_places.specs.Homes.{rounded}
 use Rattle.op_low.specs.Machine.{act, store}
 use Rattle.op_low.specs.State.{State, bad, usable}
 use Rattle.op_low.specs.declared.ids.VirtualRegister.{VirtualRegister}

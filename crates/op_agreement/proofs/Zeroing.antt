@@ -9,11 +9,11 @@ use Rattle.op_compute.proofs.Registers.{put_lower, put_other, put_same}
 use Rattle.op_compute.specs.Bank.{scratch_of}
 use Rattle.op_compute.specs.Straight.{at, put}
 use Rattle.op_expand.specs.Calls.{runtime}
-use Rattle.op_expand.specs.Homes.{home_at, rounded}
-use Rattle.op_expand.specs.Moves.{zeros_begun}
-use Rattle.op_expand.specs.Places.{home_code, home_spot, reach_code, reached, stored_code}
-use Rattle.op_expand.specs.declared.homes.Home.{Home}
-use Rattle.op_expand.specs.declared.homes.Home.TheVariants.{Stored}
+use Rattle.op_places.specs.Homes.{home_at, rounded}
+use Rattle.op_expand.specs.Actions.{zeros_begun}
+use Rattle.op_places.specs.Places.{home_code, home_spot, reach_code, reached, stored_code}
+use Rattle.op_places.specs.declared.homes.Home.{Home}
+use Rattle.op_places.specs.declared.homes.Home.TheVariants.{Stored}
 use Rattle.op_low.specs.Machine.{act}
 use Rattle.op_low.specs.State.{Running, State, routine_of}
 use Rattle.op_low.specs.declared.ids.VirtualRegister.{VirtualRegister}

@@ -4,10 +4,10 @@ use Rattle.op_constants.specs.Lies.{Lies, Leads, arrangement_of}
 use Rattle.op_constants.specs.Offsets.{size_in}
 use Rattle.op_core.specs.declared.ids.TypeId.{TypeId}
 use Rattle.op_core.specs.declared.program.Core.{Core}
-use Rattle.op_expand.specs.Homes.{home_at, offset_of}
-use Rattle.op_expand.specs.declared.frame.Frame.{Frame}
-use Rattle.op_expand.specs.declared.homes.Home.{Home}
-use Rattle.op_expand.specs.declared.homes.Home.TheVariants.{Stored}
+use Rattle.op_places.specs.Homes.{home_at, offset_of}
+use Rattle.op_places.specs.declared.frame.Frame.{Frame}
+use Rattle.op_places.specs.declared.homes.Home.{Home}
+use Rattle.op_places.specs.declared.homes.Home.TheVariants.{Stored}
 use Rattle.op_meaning.specs.Shapes.{no_type, type_of_local, type_of_variable}
 use Rattle.op_meaning.specs.Values.{Value, Holder, global, local, temporary, object, Place}
 use Rattle.op_mir.specs.declared.code.Routine.{Routine}

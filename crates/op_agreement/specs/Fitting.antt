@@ -10,7 +10,7 @@ use Rattle.op_core.specs.declared.types.CoreType.TheVariants.{Integer}
 use Rattle.op_core.specs.declared.types.IntegerKind.TheVariants.{Signed8}
 use Rattle.op_expand.specs.Calls.{closing_number, finalizations, has_closing, runtime}
 use Rattle.op_expand.specs.Closing.{closing_routine}
-use Rattle.op_expand.specs.Frames.{frame_of, parameters_of}
+use Rattle.op_places.specs.Frames.{frame_of, parameters_of}
 use Rattle.op_expand.specs.Routines.{most_charge}
 use Rattle.op_low.specs.State.{routine_of, space}
 use Rattle.op_meaning.specs.Expressions.{result_of}

@@ -5,8 +5,8 @@ use Rattle.op_constants.specs.Arranged.{IsSmall}
 use Rattle.op_core.specs.Rows.{rows}
 use Rattle.op_core.specs.declared.ids.TypeId.{TypeId}
 use Rattle.op_core.specs.declared.program.Core.{Core}
-use Rattle.op_expand.specs.Frames.{parameters_of}
-use Rattle.op_expand.specs.Homes.{is_one_root, roots_of}
+use Rattle.op_places.specs.Frames.{parameters_of}
+use Rattle.op_places.specs.Homes.{is_one_root, roots_of}
 use Rattle.op_meaning.specs.Expressions.{result_of}
 use Rattle.op_meaning.specs.Shapes.{type_of_local, variables_of}
 use Rattle.op_mir.specs.declared.action.Action.TheVariants.{Constant, Load, Store, Copy, Look, BeginWith, Pick, Compute, Do}

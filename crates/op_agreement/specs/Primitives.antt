@@ -2,7 +2,7 @@
 use Rattle.std.specs.Prelude.{◌≡◌, ◌≢◌, ◌<◌, ◌≤◌, ℕ, ◌+◌, ◌^◌, Bool, true, false, List, [], ◌∷◌, ◌++◌, codes, length}
 use Rattle.std.specs.List.{concat, list_any}
 use Rattle.op_compute.specs.Meaning.{IsWordOf}
-use Rattle.op_expand.specs.Primitives.{routine_of}
+use Rattle.op_primitives.specs.Primitives.{routine_of}
 use Rattle.op_low.specs.Machine.{Event, low_machine}
 use Rattle.op_low.specs.State.{Bad, Ended, Placement, State}
 use Rattle.op_low.specs.declared.code.Low.{Low}

@@ -11,12 +11,12 @@ use Rattle.op_constants.specs.Offsets.{size_in}
 use Rattle.op_core.specs.declared.ids.TypeId.{TypeId}
 use Rattle.op_core.specs.declared.program.Core.{Core}
 use Rattle.op_expand.specs.Calls.{due_word, runtime}
-use Rattle.op_expand.specs.Frames.{returning_of}
-use Rattle.op_expand.specs.Homes.{home_at, is_one_root, offset_of, parameter}
+use Rattle.op_places.specs.Frames.{returning_of}
+use Rattle.op_places.specs.Homes.{home_at, is_one_root, offset_of, parameter}
 use Rattle.op_expand.specs.Routines.{error_code, low_parameters}
-use Rattle.op_expand.specs.declared.frame.Frame.{Frame}
-use Rattle.op_expand.specs.declared.homes.Home.{Home}
-use Rattle.op_expand.specs.declared.homes.Home.TheVariants.{Held, Stored, Shared}
+use Rattle.op_places.specs.declared.frame.Frame.{Frame}
+use Rattle.op_places.specs.declared.homes.Home.{Home}
+use Rattle.op_places.specs.declared.homes.Home.TheVariants.{Held, Stored, Shared}
 use Rattle.op_low.specs.State.{Placement, block_of, routine_of}
 use Rattle.op_low.specs.declared.code.Low.{Low}
 use Rattle.op_meaning.specs.Shapes.{composite, no_type, shape_of, type_of_local, variables_of}

@@ -6,10 +6,10 @@ use Rattle.op_compute.specs.Meaning.{IsWordOf}
 use Rattle.op_constants.specs.Literals.{instruction_literals, literals_of}
 use Rattle.op_core.specs.declared.ids.RoutineId.{RoutineId}
 use Rattle.op_expand.specs.Calls.{closing_number, finalizations, has_closing, left, receiver_of, result_address, runtime}
-use Rattle.op_expand.specs.Frames.{frame_of}
-use Rattle.op_expand.specs.Homes.{home_at, parameter}
+use Rattle.op_places.specs.Frames.{frame_of}
+use Rattle.op_places.specs.Homes.{home_at, parameter}
 use Rattle.op_expand.specs.Routines.{most_charge}
-use Rattle.op_expand.specs.declared.homes.Home.TheVariants.{Held}
+use Rattle.op_places.specs.declared.homes.Home.TheVariants.{Held}
 use Rattle.op_low.specs.State.{Activation, Caller, State, Running, Ended, block_of, space}
 use Rattle.op_low.specs.declared.instruction.Instruction.{Instruction as LowInstruction}
 use Rattle.op_low.specs.declared.instruction.Instruction.TheVariants.{Exit, Jump}

@@ -11,7 +11,7 @@ use Rattle.op_core.specs.declared.program.Unit.{Unit as UnitRow}
 use Rattle.op_core.specs.declared.routine.Owner.TheVariants.{Unit as OfUnit}
 use Rattle.op_core.specs.declared.routine.Routine.{Routine as Row}
 use Rattle.op_expand.specs.Calls.{finalizations_of}
-use Rattle.op_expand.specs.Frames.{parameters_of}
+use Rattle.op_places.specs.Frames.{parameters_of}
 use Rattle.op_meaning.specs.Expressions.{result_of}
 use Rattle.op_typing.specs.Simple.{IsProcedure, IsSimpleUnit}
 

@@ -11,7 +11,7 @@ use Rattle.op_core.specs.declared.routine.Role.TheVariants.{Result}
 use Rattle.op_core.specs.declared.routine.Routine.{Routine as Row}
 use Rattle.op_expand.specs.Calls.{has_closing, closing_number, finalizations}
 use Rattle.op_expand.specs.Closing.{closing_routine}
-use Rattle.op_expand.specs.Frames.{parameters_of}
+use Rattle.op_places.specs.Frames.{parameters_of}
 use Rattle.op_expand.specs.Programs.{low_of}
 use Rattle.op_expand.specs.Routines.{most_charge}
 use Rattle.op_low.specs.State.{routine_or}

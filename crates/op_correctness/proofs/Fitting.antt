@@ -20,7 +20,7 @@ use Rattle.op_core.specs.declared.routine.Role.TheVariants.{Object, Parameter, R
 use Rattle.op_core.specs.declared.routine.Routine.{Routine as Row}
 use Rattle.op_core.specs.declared.routine.Variable.{Variable}
 use Rattle.op_expand.specs.Calls.{finalizations}
-use Rattle.op_expand.specs.Frames.{frame_of, parameters_of}
+use Rattle.op_places.specs.Frames.{frame_of, parameters_of}
 use Rattle.op_expand.specs.Programs.{low_of}
 use Rattle.op_expand.specs.Routines.{most_charge}
 use Rattle.op_frames.proofs.GlobalsUnder.{globals_fit}

@@ -8,7 +8,7 @@ use Rattle.op_core.specs.declared.routine.Parameter.{Parameter as ParameterRow}
 use Rattle.op_core.specs.declared.routine.Role.TheVariants.{Parameter}
 use Rattle.op_core.specs.declared.routine.Routine.{Routine as Row}
 use Rattle.op_core.specs.declared.routine.Variable.{Variable}
-use Rattle.op_expand.specs.Frames.{parameters_of}
+use Rattle.op_places.specs.Frames.{parameters_of}
 use Rattle.op_meaning.specs.Shapes.{variables_of}
 use Rattle.op_typing.proofs.Paths.{has_rows, rows_of}
 use Rattle.op_typing.proofs.Storing.{result_number}

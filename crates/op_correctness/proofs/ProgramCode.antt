@@ -11,9 +11,9 @@ use Rattle.op_core.specs.declared.ids.RoutineId.{RoutineId}
 use Rattle.op_core.specs.declared.program.Core.{Core}
 use Rattle.op_core.specs.declared.program.Unit.{Unit as UnitRow}
 use Rattle.op_core.specs.declared.routine.Variable.{Variable}
-use Rattle.op_expand.specs.Frames.{first_room, frame_of, parameters_of, variables_room}
-use Rattle.op_expand.specs.Homes.{end_of, room_behind, roots_of, with_block, with_given, with_instruction, with_receiver}
-use Rattle.op_expand.specs.declared.homes.Room.{Room}
+use Rattle.op_places.specs.Frames.{first_room, frame_of, parameters_of, variables_room}
+use Rattle.op_places.specs.Homes.{end_of, room_behind, roots_of, with_block, with_given, with_instruction, with_receiver}
+use Rattle.op_places.specs.declared.homes.Room.{Room}
 use Rattle.op_frames.proofs.Beginnings.{begins_two}
 use Rattle.op_frames.proofs.Lowered.{most_at}
 use Rattle.op_frames.proofs.MadeLemmas.{every_append}

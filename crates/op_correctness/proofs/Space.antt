@@ -20,7 +20,7 @@ use Rattle.op_correctness.specs.SimpleCore.{IsSimpleCore}
 use Rattle.op_correctness.specs.Spacious.{IsSpacious}
 use Rattle.op_expand.specs.Calls.{runtime, has_closing, closing_number}
 use Rattle.op_expand.specs.Closing.{closing_routines, closing_routine}
-use Rattle.op_expand.specs.Frames.{frame_of, parameters_of}
+use Rattle.op_places.specs.Frames.{frame_of, parameters_of}
 use Rattle.op_expand.specs.Programs.{low_of, no_bytes, routines_from}
 use Rattle.op_expand.specs.Routines.{low_routine, most_charge}
 use Rattle.op_frames.proofs.CodeFine.{IsNumbered}

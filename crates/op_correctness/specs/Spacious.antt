@@ -1,7 +1,7 @@
 -- An activation takes no more of the stack than it is charged.
 use Rattle.std.specs.Prelude.{◌≡◌, ◌<◌, ◌≤◌, ℕ, ◌+◌, length, Some, true}
 use Rattle.op_expand.specs.Calls.{closing_number, has_closing, runtime}
-use Rattle.op_expand.specs.Frames.{parameters_of}
+use Rattle.op_places.specs.Frames.{parameters_of}
 use Rattle.op_expand.specs.Routines.{most_charge}
 use Rattle.op_low.specs.State.{space}
 use Rattle.op_mir.specs.View.{routine_at}

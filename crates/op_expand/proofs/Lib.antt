@@ -1,3 +1,1 @@
-pub mod PrimitiveRows
-pub mod RoomLemmas
 pub mod SameCharges

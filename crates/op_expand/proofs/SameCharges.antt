@@ -6,10 +6,10 @@ use Rattle.op_core.specs.declared.program.Core.{Core}
 use Rattle.op_core.specs.declared.ids.RoutineId.{RoutineId}
 use Rattle.op_expand.specs.Calls.{charge_of, finalizations, has_closing}
 use Rattle.op_expand.specs.Closing.{closing_routines, finding_code, part_blocks}
-use Rattle.op_expand.specs.Frames.{frame_of}
+use Rattle.op_places.specs.Frames.{frame_of}
 use Rattle.op_expand.specs.Programs.{routine_without_code, routines_from, without_code}
 use Rattle.op_expand.specs.Routines.{beginning, blocks_of, code_of, error_block, error_blocks, instruction_code, low_parameters, low_routine, most_charge, routine_with}
-use Rattle.op_expand.specs.declared.frame.Frame.{Frame}
+use Rattle.op_places.specs.declared.frame.Frame.{Frame}
 use Rattle.op_low.specs.declared.code.Low.{Low}
 use Rattle.op_low.specs.declared.code.Routine.{Routine as LowRoutine}
 use Rattle.op_low.specs.declared.instruction.Instruction.{Instruction as LowInstruction}

@@ -14,13 +14,13 @@ use Rattle.op_core.specs.declared.program.Core.{Core}
 use Rattle.op_core.specs.declared.program.Unit.{Unit as UnitRow}
 use Rattle.op_core.specs.declared.types.IntegerKind.{IntegerKind}
 use Rattle.op_core.specs.declared.types.IntegerKind.TheVariants.{Signed32}
-use Rattle.op_expand.specs.Homes.{parameter}
-use Rattle.op_expand.specs.Moves.{by_words, bytes_code, held, limit_of, load_code}
-use Rattle.op_expand.specs.Places.{at_register, at_scratch, place_code, place_of}
-use Rattle.op_expand.specs.declared.frame.Frame.{Frame}
-use Rattle.op_expand.specs.declared.frame.Returning.{Returning}
-use Rattle.op_expand.specs.declared.frame.Returning.TheVariants.{Ending, Nothing, Result}
-use Rattle.op_expand.specs.declared.spot.Spot.{Spot}
+use Rattle.op_places.specs.Homes.{parameter}
+use Rattle.op_places.specs.Moves.{by_words, bytes_code, held, limit_of, load_code}
+use Rattle.op_places.specs.Places.{at_register, at_scratch, place_code, place_of}
+use Rattle.op_places.specs.declared.frame.Frame.{Frame}
+use Rattle.op_places.specs.declared.frame.Returning.{Returning}
+use Rattle.op_places.specs.declared.frame.Returning.TheVariants.{Ending, Nothing, Result}
+use Rattle.op_places.specs.declared.spot.Spot.{Spot}
 use Rattle.op_low.specs.declared.ids.VirtualRegister.{VirtualRegister}
 use Rattle.op_low.specs.declared.instruction.Instruction.{Instruction}
 use Rattle.op_low.specs.declared.instruction.Instruction.TheVariants.{Address, AluImm, Const, Alu, Branch, Exit, Load, Move, Return, Store}

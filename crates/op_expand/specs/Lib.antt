@@ -1,10 +1,6 @@
+pub mod Actions
 pub mod Calls
 pub mod Closing
-pub mod Frames
-pub mod Homes
-pub mod Moves
-pub mod Places
-pub mod Primitives
 pub mod Programs
 pub mod Registers
 pub mod Routines

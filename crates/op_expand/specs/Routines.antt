@@ -9,15 +9,16 @@ use Rattle.op_core.specs.declared.ids.TypeId.{TypeId}
 use Rattle.op_core.specs.declared.program.Core.{Core}
 use Rattle.op_core.specs.declared.routine.Variable.{Variable}
 use Rattle.op_expand.specs.Calls.{call_code, due_code, left, result_address, return_code, stop_code}
-use Rattle.op_expand.specs.Frames.{frame_of, parameters_of}
-use Rattle.op_expand.specs.Homes.{home_at, parameter}
-use Rattle.op_expand.specs.Moves.{action_code, store_code, taken_code}
+use Rattle.op_places.specs.Frames.{frame_of, parameters_of}
+use Rattle.op_places.specs.Homes.{home_at, parameter}
+use Rattle.op_expand.specs.Actions.{action_code}
+use Rattle.op_places.specs.Moves.{store_code, taken_code}
 use Rattle.op_expand.specs.Registers.{registers_in}
-use Rattle.op_expand.specs.declared.frame.Frame.{Frame}
-use Rattle.op_expand.specs.declared.frame.Returning.{Returning}
-use Rattle.op_expand.specs.declared.frame.Returning.TheVariants.{Ending}
-use Rattle.op_expand.specs.declared.homes.Home.{Home}
-use Rattle.op_expand.specs.declared.homes.Home.TheVariants.{Stored}
+use Rattle.op_places.specs.declared.frame.Frame.{Frame}
+use Rattle.op_places.specs.declared.frame.Returning.{Returning}
+use Rattle.op_places.specs.declared.frame.Returning.TheVariants.{Ending}
+use Rattle.op_places.specs.declared.homes.Home.{Home}
+use Rattle.op_places.specs.declared.homes.Home.TheVariants.{Stored}
 use Rattle.op_low.specs.declared.code.Block.{Block as LowBlock}
 use Rattle.op_low.specs.declared.code.Routine.{Routine as LowRoutine}
 use Rattle.op_low.specs.declared.instruction.Instruction.{Instruction as LowInstruction}

@@ -1,28 +1,26 @@
 //! The code of actions.
-ghost use Rattle.op_compute.specs.Bank.{register_of, scratch_of};
-ghost use Rattle.op_expand.specs.Moves.{action_code, begun_by, begun_code, composite_begun, number_begun, parts_begun, pick_code, row_of, zeros_begun};
+ghost use Rattle.op_compute.specs.Bank.{register_of};
+ghost use Rattle.op_expand.specs.Actions.{action_code, begun_by, begun_code, composite_begun, number_begun, parts_begun, pick_code, row_of, zeros_begun};
 ghost use Rattle.op_constants.specs.FirstBytes.{first_number};
 ghost use Rattle.op_constants.specs.Literals.{first_of_row};
 ghost use Rattle.op_constants.specs.Texts.{number_of};
 ghost use Rattle.op_meaning.specs.Shapes.{type_of_row};
 ghost use Rattle.std.specs.Option.{option_copied};
-ghost use Rattle.std.specs.Prelude.{◌≡◌, ◌∷◌, ◌++◌, [], IfOk, OnOk, length};
+ghost use Rattle.std.specs.Prelude.{◌≡◌, ◌++◌, OnOk, length};
 
-use crate::copy::{push_copy, push_taken};
-use crate::frame::Frame;
-use crate::homes::round;
-use crate::number::{NEAR, kind_of, push_load_from, push_store_to};
-use crate::place::push_place;
-use crate::primitive::push_primitive;
-use crate::push::{push_address, push_call, push_load};
 use op_base::NoMemory;
 use op_compute::{
     RuntimeError, compute, constant, push_alu, push_branch, push_const, push_immediate,
 };
 use op_constants::{Texts, are_zeros, bytes_of_row, first_number, is_composite, size_of};
 use op_core::{Core, IntegerKind, TypeId, Variable};
-use op_low::{Instruction, VirtualRegister};
+use op_low::Instruction;
 use op_mir::{Action, LocalId, Root, TemporaryId};
+use op_places::{
+    Frame, NEAR, kind_of, push_address, push_call, push_copy, push_load, push_load_from,
+    push_place, push_store_to, push_taken, round,
+};
+use op_primitives::{length, number_in, push_primitive};
 use op_rt_text::CLEAR;
 use op_rv::{AluOp, BranchOp, ImmOp, LiteralId, LoadOp, Symbol};
 use std::alloc::Global;
@@ -129,7 +127,7 @@ fn row_of<'a>(core: &'a Core, frame: &Frame, variable: LocalId) -> Option<&'a Va
     core.variables.as_slice().get(place)
 }
 
-#[tactic(auto, unfolding(crate::specs::Moves::begun_by))]
+#[tactic(auto, unfolding(crate::specs::Actions::begun_by))]
 fn push_begun_by(
     alloc: Global,
     code: &mut Vec<Instruction>,
@@ -179,7 +177,7 @@ fn number_of(row: Option<&Variable>) -> i32
     }
 }
 
-#[tactic(auto, unfolding(crate::specs::Moves::number_begun))]
+#[tactic(auto, unfolding(crate::specs::Actions::number_begun))]
 fn push_number_begun(
     code: &mut Vec<Instruction>,
     core: &Core,
@@ -225,7 +223,7 @@ fn push_composite_begun(
     push_parts_begun(alloc, code, core, frame, size, id, variable)
 }
 
-#[tactic(auto, unfolding(crate::specs::Moves::zeros_begun))]
+#[tactic(auto, unfolding(crate::specs::Actions::zeros_begun))]
 fn push_zeros_begun(
     alloc: Global,
     code: &mut Vec<Instruction>,
@@ -260,20 +258,6 @@ fn push_parts_begun(
 {
     push_address(code, frame.spare, Symbol::Literal(LiteralId(id)))?;
     push_taken(alloc, code, core, frame, frame.spare, size, variable)
-}
-
-/// A length of less than 2^32 bytes.
-pub(crate) fn length(bytes: usize) -> Result<u32, NoMemory>
-    ensures { IfOk result (λ n. n ≡ bytes) }
-{
-    u32::try_from(bytes).ok().ok_or(NoMemory)
-}
-
-/// The number of a literal.
-pub(crate) fn number_in(literals: &Texts, text: &[u8]) -> Result<u32, NoMemory>
-    ensures { IfOk result (λ n. n ≡ number_of literals.now text.now) }
-{
-    length(literals.number_of(text))
 }
 
 /// A Char of a text, by its index from 1, or error 201.

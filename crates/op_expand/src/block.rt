@@ -6,14 +6,13 @@ ghost use Rattle.std.specs.Prelude.{◌≡◌, ◌∷◌, ◌++◌, [], IfOk, On
 use crate::action::push_action;
 use crate::call::{LEFT, RESULT_ADDRESS, push_call_of, push_return};
 use crate::closing::{push_due, push_exit, push_stop};
-use crate::frame::Frame;
-use crate::push::push_address;
 use op_base::{NoMemory, Sequence};
 use op_compute::{branch_if_false, branch_if_true, dispatch, push, push_const, switch};
 use op_constants::{ERROR_200, ERROR_201, ERROR_202, ERROR_215, Texts};
 use op_core::Core;
 use op_low::Output;
 use op_mir::{Block, Instruction, Mir};
+use op_places::{Frame, push_address};
 use op_rv::{BlockId, LiteralId, Symbol};
 use std::alloc::Global;
 

@@ -1,23 +1,20 @@
 //! Calls and returns.
 ghost use Rattle.op_compute.specs.Bank.{register_of, scratch_of};
 ghost use Rattle.op_expand.specs.Calls.{call_code, charge_of, charging_code, given_code, given_spot, givens_code, givens_in, number_code, parts_code, receiver_code, receiver_of, receiver_spot, result_code, return_code, value_code, value_spot};
-ghost use Rattle.op_expand.specs.Places.{place_code, place_of};
+ghost use Rattle.op_places.specs.Places.{place_code, place_of};
 ghost use Rattle.std.specs.Prelude.{◌≡◌, ◌++◌, IfOk, OnOk};
 
 use crate::closing::push_ending;
-use crate::copy::{by_words, limit_of, push_bytes};
-use crate::frame::{Frame, Returning};
-use crate::homes::{parameter, sum};
-use crate::number::{held, kind_of, push_load_from};
-use crate::place::push_place;
-use crate::push::push_call;
-use crate::spot::{Spot, at_register, at_scratch};
 use op_base::NoMemory;
 use op_compute::{RuntimeError, low_bits, push, push_alu, push_branch, push_const};
 use op_constants::{is_composite, size_of};
 use op_core::{Core, IntegerKind, RoutineId, TypeId};
 use op_low::{Instruction, VirtualRegister};
 use op_mir::{Call, Given, LocalId, Mir, Path, Receiver, Root};
+use op_places::{
+    Frame, Returning, Spot, at_register, at_scratch, by_words, held, kind_of, limit_of, parameter,
+    push_bytes, push_call, push_load_from, push_place, sum,
+};
 use op_rt_text::RUNTIME;
 use op_rv::{AluOp, BranchOp};
 use std::alloc::Global;

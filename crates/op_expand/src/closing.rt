@@ -7,15 +7,13 @@ ghost use Rattle.std.specs.Prelude.{◌≡◌, ◌∷◌, ◌++◌, ◌+◌, [],
 
 use crate::block::overflow_block;
 use crate::call::{LEFT, charge_of};
-use crate::frame::Frame;
-use crate::homes::sum;
-use crate::push::{push_address, push_call, push_load, push_store};
 use crate::routine::routine_with;
 use op_base::{NoMemory, Sequence};
 use op_compute::{push, push_alu, push_branch, push_const, push_immediate};
 use op_core::{Core, RoutineId, Unit};
 use op_low::{Block, Instruction, VirtualRegister};
 use op_mir::Mir;
+use op_places::{Frame, push_address, push_call, push_load, push_store, sum};
 use op_rt_text::RUNTIME;
 use op_rv::{AluOp, BlockId, BranchOp, GlobalId, ImmOp, LoadOp, StoreOp, Symbol};
 use std::alloc::Global;

@@ -5,13 +5,13 @@ ghost use Rattle.std.specs.Prelude.{◌≡◌, ◌∷◌, ◌++◌, [], IfOk, On
 
 use crate::closing::{push_closing_routine, small};
 use crate::global::globals;
-use crate::homes::sum;
 use crate::routine::routine;
 use op_base::{NoMemory, Sequence};
 use op_constants::Texts;
 use op_core::{Core, RoutineId};
 use op_low::{Counts, Low};
 use op_mir::{Mir, Routine};
+use op_places::sum;
 use op_rt_text::{RUNTIME, routines};
 use std::alloc::Global;
 

@@ -3,16 +3,15 @@ ghost use Rattle.op_expand.specs.Routines.{all_received, beginning, begun_with_s
 ghost use Rattle.std.specs.Prelude.{◌≡◌, ◌≤◌, ◌++◌, OnOk, length, take};
 
 use crate::call::LEFT;
-use crate::copy::push_taken;
-use crate::frame::{Frame, Returning, parameters_of, variables_of};
-use crate::homes::{Home, home_at, parameter, sum};
-use crate::number::{kind_of, push_store_to};
-use crate::push::{push_address, push_load};
 use op_base::NoMemory;
 use op_constants::{is_composite, size_of};
 use op_core::{Core, RoutineId, TypeId, Variable};
 use op_low::Instruction;
 use op_mir::{LocalId, Root};
+use op_places::{
+    Frame, Home, Returning, home_at, kind_of, parameter, parameters_of, push_address, push_load,
+    push_store_to, push_taken, sum, variables_of,
+};
 use op_rv::{GlobalId, LoadOp, Symbol};
 use std::alloc::Global;
 

@@ -2,9 +2,9 @@
 ghost use Rattle.op_expand.specs.Registers.{greatest, greatest_in, greatest_in_call, registers_in, with_block};
 ghost use Rattle.std.specs.Prelude.{◌≡◌, IfOk};
 
-use crate::homes::sum;
 use op_base::NoMemory;
 use op_low::{Block, Call, Instruction, VirtualRegister};
+use op_places::sum;
 
 fn greatest(a: VirtualRegister, b: VirtualRegister, c: VirtualRegister) -> u32
     ensures { result ≡ greatest a b c }

@@ -1,17 +1,16 @@
 //! Routines.
-ghost use Rattle.op_expand.specs.Frames.{frame_of};
+ghost use Rattle.op_places.specs.Frames.{frame_of};
 ghost use Rattle.op_expand.specs.Routines.{all_blocks, error_block, low_parameters, low_routine, routine_with};
 ghost use Rattle.std.specs.Prelude.{◌≡◌, ◌∷◌, [], IfOk};
 
 use crate::block::{overflow_block, push_blocks, push_error_blocks};
-use crate::frame::{Frame, frame_of, parameters_of};
-use crate::homes::sum;
 use crate::receive::push_beginning;
 use crate::registers::registers_in;
 use op_base::{NoMemory, Sequence};
 use op_constants::Texts;
 use op_core::{Core, RoutineId};
 use op_mir::{Mir, Routine};
+use op_places::{Frame, frame_of, parameters_of, sum};
 use std::alloc::Global;
 
 /// No stack has room for an activation that is charged more.

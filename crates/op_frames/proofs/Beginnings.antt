@@ -10,11 +10,11 @@ use Rattle.op_core.specs.Statement.{BuiltIn, write, read, count, set_length, inc
 use Rattle.op_core.specs.declared.ids.TypeId.{TypeId}
 use Rattle.op_core.specs.declared.program.Core.{Core}
 use Rattle.op_core.specs.declared.routine.Variable.{Variable}
-use Rattle.op_expand.specs.Frames.{first_room, frame_of, parameters_of}
-use Rattle.op_expand.specs.Homes.{home_at, home_by, homes_from, keeping_of, roots_of, room_by, with_block, with_instruction}
-use Rattle.op_expand.specs.declared.frame.Frame.{Frame}
-use Rattle.op_expand.specs.declared.homes.Keeping.TheVariants.{AsGiven, InRegister}
-use Rattle.op_expand.specs.declared.homes.Room.{Room}
+use Rattle.op_places.specs.Frames.{first_room, frame_of, parameters_of}
+use Rattle.op_places.specs.Homes.{home_at, home_by, homes_from, keeping_of, roots_of, room_by, with_block, with_instruction}
+use Rattle.op_places.specs.declared.frame.Frame.{Frame}
+use Rattle.op_places.specs.declared.homes.Keeping.TheVariants.{AsGiven, InRegister}
+use Rattle.op_places.specs.declared.homes.Room.{Room}
 use Rattle.op_frames.proofs.ExpressionsWithin.{expression_some, made_both}
 use Rattle.op_frames.proofs.Lowered.{code_is, most_at}
 use Rattle.op_frames.specs.Counted.{AreCountedStatements, IsCountedStatement}

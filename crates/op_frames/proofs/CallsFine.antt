@@ -9,12 +9,12 @@ use Rattle.op_core.specs.declared.program.Core.{Core}
 use Rattle.op_core.specs.declared.types.IntegerKind.{IntegerKind}
 use Rattle.op_core.specs.declared.types.IntegerKind.TheVariants.{Signed8, Unsigned8, Signed16, Unsigned16, Signed32}
 use Rattle.op_expand.specs.Calls.{left, result_address, value_code, value_spot, given_code, given_spot, givens_code, givens_in, receiver_code, receiver_spot, receiver_of, charge_of, charging_code, call_code, number_code, parts_code, return_code, closing_number, ending_code, has_closing, stop_code, closing_call, due_code}
-use Rattle.op_expand.specs.Homes.{parameter}
-use Rattle.op_expand.specs.Moves.{by_words, held, limit_of}
-use Rattle.op_expand.specs.Places.{at_register, home_of, place_of}
-use Rattle.op_expand.specs.declared.frame.Frame.{Frame}
-use Rattle.op_expand.specs.declared.frame.Returning.{Returning}
-use Rattle.op_expand.specs.declared.frame.Returning.TheVariants.{Ending, Nothing, Result}
+use Rattle.op_places.specs.Homes.{parameter}
+use Rattle.op_places.specs.Moves.{by_words, held, limit_of}
+use Rattle.op_places.specs.Places.{at_register, home_of, place_of}
+use Rattle.op_places.specs.declared.frame.Frame.{Frame}
+use Rattle.op_places.specs.declared.frame.Returning.{Returning}
+use Rattle.op_places.specs.declared.frame.Returning.TheVariants.{Ending, Nothing, Result}
 use Rattle.op_frames.proofs.ComputingFine.{joined, low_bits_fine}
 use Rattle.op_frames.proofs.Fine.{Bounds, Below, IsFine, AreFine}
 use Rattle.op_frames.proofs.MovesFine.{HasRuntime, IsHeld, held_fine, path_fine, path_spot, local_path, load_fine, bytes_fine, register_below}

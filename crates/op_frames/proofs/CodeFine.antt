@@ -15,14 +15,15 @@ use Rattle.op_core.specs.declared.statement.Label.{Label}
 use Rattle.op_core.specs.declared.types.IntegerKind.{IntegerKind}
 use Rattle.op_core.specs.Initial.{FirstValue, first_value_of}
 use Rattle.op_expand.specs.Calls.{left, result_address, number_code, parts_code, return_code, closing_call, has_closing}
-use Rattle.op_expand.specs.Frames.{frame_of}
-use Rattle.op_expand.specs.Homes.{parameter}
-use Rattle.op_expand.specs.Places.{at_register, place_code, place_of}
-use Rattle.op_expand.specs.Moves.{action_code, by_words, bytes_code, composite_begun, limit_of, load_code, begun_by, begun_code, held, near, number_begun, parts_begun, row_of, zeros_begun}
+use Rattle.op_places.specs.Frames.{frame_of}
+use Rattle.op_places.specs.Homes.{parameter}
+use Rattle.op_places.specs.Places.{at_register, place_code, place_of}
+use Rattle.op_expand.specs.Actions.{action_code, composite_begun, begun_by, begun_code, number_begun, parts_begun, row_of, zeros_begun}
+use Rattle.op_places.specs.Moves.{by_words, bytes_code, limit_of, load_code, held, near}
 use Rattle.op_expand.specs.Routines.{instruction_code, code_of}
-use Rattle.op_expand.specs.declared.frame.Frame.{Frame}
-use Rattle.op_expand.specs.declared.frame.Returning.{Returning}
-use Rattle.op_expand.specs.declared.frame.Returning.TheVariants.{Ending, Nothing, Result}
+use Rattle.op_places.specs.declared.frame.Frame.{Frame}
+use Rattle.op_places.specs.declared.frame.Returning.{Returning}
+use Rattle.op_places.specs.declared.frame.Returning.TheVariants.{Ending, Nothing, Result}
 use Rattle.op_frames.proofs.CallsFine.{CanReturn, TakesClosing, call_fine, due_fine, return_fine, stop_fine}
 use Rattle.op_frames.proofs.ComputingFine.{IsArm, HasWord, joined, constant_fine, true_fine, false_fine, switch_fine, dispatch_fine}
 use Rattle.op_frames.proofs.Fine.{Bounds, Below, AreFine}

@@ -10,20 +10,20 @@ use Rattle.op_core.specs.Rows.{rows}
 use Rattle.op_core.specs.declared.ids.TypeId.{TypeId}
 use Rattle.op_core.specs.declared.program.Core.{Core}
 use Rattle.op_core.specs.declared.routine.Variable.{Variable}
-use Rattle.op_expand.proofs.RoomLemmas.{behind_grows, room_whole, rounded_whole, sum_whole}
+use Rattle.op_places.proofs.RoomLemmas.{behind_grows, room_whole, rounded_whole, sum_whole}
 use Rattle.op_expand.specs.Calls.{left}
-use Rattle.op_expand.specs.Frames.{frame_of, first_room, parameters_of, returning_of, spare_from, spare_of, variables_room}
-use Rattle.op_expand.specs.Homes.{end_of, home_at, home_by, homes_from, is_one_root, keeping_of, parameter, room_behind, room_by, roots_of, size_of_root}
-use Rattle.op_expand.specs.Moves.{store_code, taken_code}
+use Rattle.op_places.specs.Frames.{frame_of, first_room, parameters_of, returning_of, spare_from, spare_of, variables_room}
+use Rattle.op_places.specs.Homes.{end_of, home_at, home_by, homes_from, is_one_root, keeping_of, parameter, room_behind, room_by, roots_of, size_of_root}
+use Rattle.op_places.specs.Moves.{store_code, taken_code}
 use Rattle.op_expand.specs.Routines.{all_received, beginning, begun_with_stack, received, received_number}
-use Rattle.op_expand.specs.declared.frame.Frame.{Frame}
-use Rattle.op_expand.specs.declared.frame.Returning.{Returning}
-use Rattle.op_expand.specs.declared.frame.Returning.TheVariants.{Ending, Nothing, Result}
-use Rattle.op_expand.specs.declared.homes.Home.{Home}
-use Rattle.op_expand.specs.declared.homes.Home.TheVariants.{Held, Stored, Shared}
-use Rattle.op_expand.specs.declared.homes.Keeping.{Keeping}
-use Rattle.op_expand.specs.declared.homes.Keeping.TheVariants.{AsGiven, InRegister, InMemory}
-use Rattle.op_expand.specs.declared.homes.Room.{Room}
+use Rattle.op_places.specs.declared.frame.Frame.{Frame}
+use Rattle.op_places.specs.declared.frame.Returning.{Returning}
+use Rattle.op_places.specs.declared.frame.Returning.TheVariants.{Ending, Nothing, Result}
+use Rattle.op_places.specs.declared.homes.Home.{Home}
+use Rattle.op_places.specs.declared.homes.Home.TheVariants.{Held, Stored, Shared}
+use Rattle.op_places.specs.declared.homes.Keeping.{Keeping}
+use Rattle.op_places.specs.declared.homes.Keeping.TheVariants.{AsGiven, InRegister, InMemory}
+use Rattle.op_places.specs.declared.homes.Room.{Room}
 use Rattle.op_frames.proofs.ComputingFine.{joined}
 use Rattle.op_frames.proofs.Fine.{Bounds, Below, IsFine, AreFine}
 use Rattle.op_frames.proofs.MovesFine.{HasRuntime, local_path, store_fine, taken_fine}

@@ -16,12 +16,12 @@ use Rattle.op_core.specs.Rows.{rows}
 use Rattle.op_core.specs.declared.ids.TypeId.{TypeId}
 use Rattle.op_core.specs.declared.program.Core.{Core}
 use Rattle.op_core.specs.declared.routine.Variable.{Variable}
-use Rattle.op_expand.specs.Frames.{first_room, frame_of, parameters_of, variables_room}
-use Rattle.op_expand.specs.Homes.{is_one_root, keeping_of, room_behind, room_by, roots_of, rounded, size_of_root, home_at, home_by, homes_from, with_action, with_block, with_given, with_instruction, with_receiver, with_temporary}
-use Rattle.op_expand.specs.declared.homes.Home.{Home}
-use Rattle.op_expand.specs.declared.homes.Keeping.{Keeping}
-use Rattle.op_expand.specs.declared.homes.Keeping.TheVariants.{AsGiven, InRegister, InMemory}
-use Rattle.op_expand.specs.declared.homes.Room.{Room}
+use Rattle.op_places.specs.Frames.{first_room, frame_of, parameters_of, variables_room}
+use Rattle.op_places.specs.Homes.{is_one_root, keeping_of, room_behind, room_by, roots_of, rounded, size_of_root, home_at, home_by, homes_from, with_action, with_block, with_given, with_instruction, with_receiver, with_temporary}
+use Rattle.op_places.specs.declared.homes.Home.{Home}
+use Rattle.op_places.specs.declared.homes.Keeping.{Keeping}
+use Rattle.op_places.specs.declared.homes.Keeping.TheVariants.{AsGiven, InRegister, InMemory}
+use Rattle.op_places.specs.declared.homes.Room.{Room}
 use Rattle.op_frames.proofs.Beginnings.{begins_two}
 use Rattle.op_frames.proofs.FramesUnder.{kept_by, end_is}
 use Rattle.op_frames.proofs.Lowered.{most_at}

@@ -14,12 +14,12 @@ use Rattle.op_core.specs.declared.routine.Role.{Role}
 use Rattle.op_core.specs.declared.routine.Role.TheVariants.{Plain, Constant, Parameter, Object, Result, Handler}
 use Rattle.op_core.specs.declared.routine.Routine.{Routine as Row}
 use Rattle.op_core.specs.declared.routine.Variable.{Variable}
-use Rattle.op_expand.specs.Frames.{first_room, frame_of, parameters_of, variables_room}
-use Rattle.op_expand.specs.Homes.{end_of, home_by, homes_from, is_one_root, keeping_of, room_behind, room_by, roots_of, rounded, size_of_root}
-use Rattle.op_expand.specs.declared.homes.Home.{Home}
-use Rattle.op_expand.specs.declared.homes.Keeping.{Keeping}
-use Rattle.op_expand.specs.declared.homes.Keeping.TheVariants.{AsGiven, InRegister, InMemory}
-use Rattle.op_expand.specs.declared.homes.Room.{Room}
+use Rattle.op_places.specs.Frames.{first_room, frame_of, parameters_of, variables_room}
+use Rattle.op_places.specs.Homes.{end_of, home_by, homes_from, is_one_root, keeping_of, room_behind, room_by, roots_of, rounded, size_of_root}
+use Rattle.op_places.specs.declared.homes.Home.{Home}
+use Rattle.op_places.specs.declared.homes.Keeping.{Keeping}
+use Rattle.op_places.specs.declared.homes.Keeping.TheVariants.{AsGiven, InRegister, InMemory}
+use Rattle.op_places.specs.declared.homes.Room.{Room}
 use Rattle.op_frames.proofs.Beginnings.{begins_one, begins_two}
 use Rattle.op_frames.proofs.Lowered.{routine_under}
 use Rattle.op_frames.proofs.ExpressionsWithin.{made_both}

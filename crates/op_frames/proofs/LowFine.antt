@@ -17,8 +17,8 @@ use Rattle.op_core.specs.declared.ids.VariableId.{VariableId}
 use Rattle.op_core.specs.declared.program.Core.{Core}
 use Rattle.op_expand.specs.Calls.{has_closing, closing_number, finalizations}
 use Rattle.op_expand.specs.Closing.{closing_routine, closing_routines}
-use Rattle.op_expand.specs.Frames.{parameters_of}
-use Rattle.op_expand.specs.Homes.{parameter}
+use Rattle.op_places.specs.Frames.{parameters_of}
+use Rattle.op_places.specs.Homes.{parameter}
 use Rattle.op_expand.specs.Programs.{global_of, globals_in, low_of, no_bytes, routines_from, stack_global, with_global}
 use Rattle.op_expand.specs.Routines.{low_parameters, low_routine, most_charge}
 use Rattle.op_frames.proofs.ClosingFine.{closing_registers, closing_valid}

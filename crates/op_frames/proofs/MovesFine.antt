@@ -16,15 +16,16 @@ use Rattle.op_core.specs.declared.ids.TypeId.{TypeId}
 use Rattle.op_core.specs.declared.program.Core.{Core}
 use Rattle.op_core.specs.declared.routine.Variable.{Variable}
 use Rattle.op_core.specs.declared.types.IntegerKind.{IntegerKind}
-use Rattle.op_expand.specs.Homes.{home_at, rounded}
-use Rattle.op_expand.specs.Moves.{load_op, store_op, near, held_by, held, load_code, store_code, by_words, unit_of, units_in, is_short, limit_of, unit_load, unit_store, unit_code, units_code, copy_number, bytes_code, copy_code, number_begun, taken_code, parts_begun, begun_by, begun_code, row_of, pick_code, action_code, zeros_begun}
-use Rattle.op_expand.specs.Places.{home_of, place_code, place_of}
-use Rattle.op_expand.proofs.PrimitiveRows.{served}
-use Rattle.op_expand.specs.Primitives.{destination_register, operands_code, operands_passed, primitive_code, routine_of, words_in}
-use Rattle.op_expand.specs.declared.frame.Frame.{Frame}
-use Rattle.op_expand.specs.declared.homes.Home.{Home}
-use Rattle.op_expand.specs.declared.homes.Home.TheVariants.{Held, Stored, Shared}
-use Rattle.op_expand.specs.declared.spot.Spot.{Spot}
+use Rattle.op_places.specs.Homes.{home_at, rounded}
+use Rattle.op_expand.specs.Actions.{number_begun, parts_begun, begun_by, begun_code, row_of, pick_code, action_code, zeros_begun}
+use Rattle.op_places.specs.Moves.{load_op, store_op, near, held_by, held, load_code, store_code, by_words, unit_of, units_in, is_short, limit_of, unit_load, unit_store, unit_code, units_code, copy_number, bytes_code, copy_code, taken_code}
+use Rattle.op_places.specs.Places.{home_of, place_code, place_of}
+use Rattle.op_primitives.proofs.PrimitiveRows.{served}
+use Rattle.op_primitives.specs.Primitives.{destination_register, operands_code, operands_passed, primitive_code, routine_of, words_in}
+use Rattle.op_places.specs.declared.frame.Frame.{Frame}
+use Rattle.op_places.specs.declared.homes.Home.{Home}
+use Rattle.op_places.specs.declared.homes.Home.TheVariants.{Held, Stored, Shared}
+use Rattle.op_places.specs.declared.spot.Spot.{Spot}
 use Rattle.op_frames.proofs.ComputingFine.{IsWork, AreOperands, joined, word_of, constant_fine, low_bits_fine, arithmetic_fine, negate_fine, absolute_fine, compare_fine, upper_fine, check_fine, neighbour_fine, combine_fine, single_fine, span_fine, contains_fine, check_set_fine}
 use Rattle.op_frames.proofs.Fine.{Bounds, Below, Leads, IsFine, AreFine}
 use Rattle.op_frames.proofs.PlacesFine.{IsHome, IsFrame, Temporaries, IsSpot, most_each, temporary_below, root_home, place_fine, place_spot, place_near}

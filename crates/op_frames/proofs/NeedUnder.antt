@@ -18,7 +18,7 @@ use Rattle.op_core.specs.declared.routine.Body.{Body}
 use Rattle.op_core.specs.declared.routine.Role.TheVariants.{Object}
 use Rattle.op_core.specs.declared.routine.Routine.{Routine as Row}
 use Rattle.op_core.specs.declared.routine.Variable.{Variable}
-use Rattle.op_expand.specs.Frames.{parameters_of}
+use Rattle.op_places.specs.Frames.{parameters_of}
 use Rattle.op_frames.proofs.ExpressionsWithin.{made_both}
 use Rattle.op_frames.proofs.FramesUnder.{memory_words, reference_words}
 use Rattle.op_frames.proofs.Lowered.{code_is, routine_under}

@@ -13,12 +13,12 @@ use Rattle.op_compute.specs.declared.bank.RuntimeError.TheVariants.{RangeCheck}
 use Rattle.op_constants.specs.Offsets.{element_size, field_offset, size_in}
 use Rattle.op_core.specs.declared.program.Core.{Core}
 use Rattle.op_core.specs.declared.ids.TypeId.{TypeId}
-use Rattle.op_expand.specs.Homes.{home_at, offset_of}
-use Rattle.op_expand.specs.Places.{after, at_register, at_scratch, reach_code, reached, home_of, stored_code, home_code, home_spot, power_of, scale_code, scaled, index_code, behind_code, element_code, step_code, step_spot, steps_code, steps_spot, place_code, place_of}
-use Rattle.op_expand.specs.declared.frame.Frame.{Frame}
-use Rattle.op_expand.specs.declared.homes.Home.{Home}
-use Rattle.op_expand.specs.declared.homes.Home.TheVariants.{Held, Stored, Shared}
-use Rattle.op_expand.specs.declared.spot.Spot.{Spot}
+use Rattle.op_places.specs.Homes.{home_at, offset_of}
+use Rattle.op_places.specs.Places.{after, at_register, at_scratch, reach_code, reached, home_of, stored_code, home_code, home_spot, power_of, scale_code, scaled, index_code, behind_code, element_code, step_code, step_spot, steps_code, steps_spot, place_code, place_of}
+use Rattle.op_places.specs.declared.frame.Frame.{Frame}
+use Rattle.op_places.specs.declared.homes.Home.{Home}
+use Rattle.op_places.specs.declared.homes.Home.TheVariants.{Held, Stored, Shared}
+use Rattle.op_places.specs.declared.spot.Spot.{Spot}
 use Rattle.op_frames.proofs.ComputingFine.{joined, sum_with_fine, distance_fine, register_fine}
 use Rattle.op_frames.proofs.Fine.{Bounds, Below, Leads, IsFine, AreFine}
 use Rattle.op_frames.specs.Made.{Every}

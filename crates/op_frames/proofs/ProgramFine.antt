@@ -10,18 +10,18 @@ use Rattle.op_constants.specs.Offsets.{size_in}
 use Rattle.op_core.specs.Rows.{rows}
 use Rattle.op_core.specs.declared.ids.TypeId.{TypeId}
 use Rattle.op_core.specs.declared.program.Core.{Core}
-use Rattle.op_expand.proofs.RoomLemmas.{behind_grows}
+use Rattle.op_places.proofs.RoomLemmas.{behind_grows}
 use Rattle.op_expand.specs.Calls.{has_closing, closing_number}
-use Rattle.op_expand.specs.Frames.{frame_of, first_room, parameters_of, variables_room}
-use Rattle.op_expand.specs.Homes.{home_at, parameter, roots_of}
-use Rattle.op_expand.specs.Moves.{held, held_by}
+use Rattle.op_places.specs.Frames.{frame_of, first_room, parameters_of, variables_room}
+use Rattle.op_places.specs.Homes.{home_at, parameter, roots_of}
+use Rattle.op_places.specs.Moves.{held, held_by}
 use Rattle.op_expand.specs.Programs.{routines_from}
 use Rattle.op_expand.specs.Registers.{registers_in}
 use Rattle.op_expand.specs.Routines.{all_blocks, beginning, blocks_of, error_block, error_blocks, low_parameters, low_routine, most_charge, routine_with}
-use Rattle.op_expand.specs.declared.frame.Returning.{Returning}
-use Rattle.op_expand.specs.declared.frame.Returning.TheVariants.{Ending, Nothing, Result}
-use Rattle.op_expand.specs.declared.homes.Home.{Home}
-use Rattle.op_expand.specs.declared.homes.Home.TheVariants.{Held, Shared, Stored}
+use Rattle.op_places.specs.declared.frame.Returning.{Returning}
+use Rattle.op_places.specs.declared.frame.Returning.TheVariants.{Ending, Nothing, Result}
+use Rattle.op_places.specs.declared.homes.Home.{Home}
+use Rattle.op_places.specs.declared.homes.Home.TheVariants.{Held, Shared, Stored}
 use Rattle.op_frames.proofs.CallsFine.{CanReturn, TakesClosing}
 use Rattle.op_frames.proofs.CodeFine.{CanBegin, CanDo, IsNumbered}
 use Rattle.op_frames.proofs.Fine.{Bounds, Below}

@@ -6,7 +6,7 @@ use Rattle.std.specs.List.{list_all}
 use Rattle.std.proofs.lemmas.List.Concat.{flat_map-cons}
 use Rattle.op_constants.specs.Literals.{block_literals, instruction_literals}
 use Rattle.op_core.specs.declared.program.Core.{Core}
-use Rattle.op_expand.specs.Frames.{frame_of}
+use Rattle.op_places.specs.Frames.{frame_of}
 use Rattle.op_expand.specs.Registers.{greatest_in, registers_in, with_block, with_instruction}
 use Rattle.op_expand.specs.Routines.{code_of, blocks_of, error_block, error_blocks, routine_with}
 use Rattle.op_frames.proofs.CodeFine.{CanDo, Ends, ends_behind, code_ends, instruction_fine, IsNumbered}

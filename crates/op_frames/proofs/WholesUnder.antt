@@ -9,8 +9,8 @@ use Rattle.op_base.proofs.Tests.{or_second}
 use Rattle.op_constants.specs.Offsets.{size_in}
 use Rattle.op_core.specs.declared.ids.TypeId.{TypeId}
 use Rattle.op_core.specs.declared.program.Core.{Core}
-use Rattle.op_expand.proofs.RoomLemmas.{one_with_both}
-use Rattle.op_expand.specs.Homes.{is_one_root, roots_of, rounded, size_of_root, with_root, with_temporary, with_place, with_given, with_receiver, with_call, with_action, with_instruction, with_block}
+use Rattle.op_places.proofs.RoomLemmas.{one_with_both}
+use Rattle.op_places.specs.Homes.{is_one_root, roots_of, rounded, size_of_root, with_root, with_temporary, with_place, with_given, with_receiver, with_call, with_action, with_instruction, with_block}
 use Rattle.op_frames.proofs.Lowered.{code_is}
 use Rattle.op_frames.specs.Made.{AreMade, Every, IsCode}
 use Rattle.op_frames.specs.Wholes.{IsWholeIn, ActionIn, GivenIn, ReceiverIn, AreWholesIn}

@@ -12,8 +12,8 @@ use Rattle.op_core.specs.declared.program.Core.{Core}
 use Rattle.op_core.specs.declared.routine.Body.{Body}
 use Rattle.op_core.specs.declared.routine.Role.TheVariants.{Object}
 use Rattle.op_core.specs.declared.routine.Routine.{Routine as Row}
-use Rattle.op_expand.specs.Frames.{frame_of, parameters_of}
-use Rattle.op_expand.specs.Homes.{roots_of, size_of_root}
+use Rattle.op_places.specs.Frames.{frame_of, parameters_of}
+use Rattle.op_places.specs.Homes.{roots_of, size_of_root}
 use Rattle.op_expand.specs.Programs.{globals_in, low_of}
 use Rattle.op_expand.specs.Routines.{most_charge}
 use Rattle.op_frames.specs.Charged.{IsCharged}

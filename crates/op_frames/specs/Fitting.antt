@@ -9,12 +9,12 @@ use Rattle.op_core.specs.declared.ids.TypeId.{TypeId}
 use Rattle.op_core.specs.declared.program.Core.{Core}
 use Rattle.op_core.specs.declared.routine.Variable.{Variable}
 use Rattle.op_expand.specs.Calls.{finalizations}
-use Rattle.op_expand.specs.Frames.{frame_of, parameters_of, variables_room}
-use Rattle.op_expand.specs.Homes.{home_at}
+use Rattle.op_places.specs.Frames.{frame_of, parameters_of, variables_room}
+use Rattle.op_places.specs.Homes.{home_at}
 use Rattle.op_expand.specs.Routines.{most_charge}
-use Rattle.op_expand.specs.declared.frame.Frame.{Frame}
-use Rattle.op_expand.specs.declared.homes.Home.{Home}
-use Rattle.op_expand.specs.declared.homes.Home.TheVariants.{Held, Stored}
+use Rattle.op_places.specs.declared.frame.Frame.{Frame}
+use Rattle.op_places.specs.declared.homes.Home.{Home}
+use Rattle.op_places.specs.declared.homes.Home.TheVariants.{Held, Stored}
 use Rattle.op_frames.specs.Made.{Every, IsCode}
 use Rattle.op_frames.specs.Named.{IsNamed}
 use Rattle.op_frames.specs.Scratch.{room_in}

@@ -1,7 +1,7 @@
 -- Which temporaries of record and array types an instruction names: those of a list.
 use Rattle.std.specs.Prelude.{◌≡◌, ℕ, true, List}
 use Rattle.std.specs.List.{list_any}
-use Rattle.op_expand.specs.Homes.{is_one_root}
+use Rattle.op_places.specs.Homes.{is_one_root}
 use Rattle.op_frames.specs.Made.{Every}
 use Rattle.op_meaning.specs.Actions.{Action, constant, load, store, copy, look, begin_with, pick, arithmetic, compare, negate, complement, invert, absolute, odd, upper, low_bits, check, neighbour, single, span, combine, contains, check_set, primitive}
 use Rattle.op_meaning.specs.Items.{Given, by_value, by_reference, by_place, by_copy, Receiver, nowhere, to_temp, to_place}

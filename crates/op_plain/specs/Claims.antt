@@ -4,7 +4,7 @@ use Rattle.op_constants.specs.Offsets.{size_in}
 use Rattle.op_core.specs.Rows.{rows}
 use Rattle.op_core.specs.declared.program.Core.{Core}
 use Rattle.op_core.specs.declared.routine.Role.TheVariants.{Object}
-use Rattle.op_expand.specs.Frames.{parameters_of}
+use Rattle.op_places.specs.Frames.{parameters_of}
 use Rattle.op_frames.specs.Charged.{IsCharged}
 use Rattle.op_frames.specs.Counted.{AreCountedStatements}
 use Rattle.op_frames.specs.Made.{Every}

@@ -14,17 +14,18 @@ use Rattle.op_core.specs.declared.program.Core.{Core}
 use Rattle.op_core.specs.declared.types.IntegerKind.{IntegerKind}
 use Rattle.op_core.specs.declared.types.IntegerKind.TheVariants.{Signed8, Unsigned8, Signed16, Unsigned16, Signed32}
 use Rattle.op_expand.specs.Calls.{call_code, charge_of, charging_code, given_code, given_spot, givens_code, givens_in, left, number_code, parts_code, receiver_code, receiver_of, receiver_spot, result_address, return_code, runtime, value_code, has_closing, closing_call}
-use Rattle.op_expand.specs.Homes.{parameter, rounded}
-use Rattle.op_expand.specs.Moves.{action_code, begun_by, begun_code, composite_begun, zeros_begun, by_words, bytes_code, copy_code, copy_number, held, is_short, limit_of, load_code, load_op, near, number_begun, parts_begun, row_of, store_code, store_op, taken_code, unit_code, units_code, units_in}
-use Rattle.op_expand.specs.Places.{after, at_register, behind_code, element_code, home_code, home_of, home_spot, index_code, place_code, place_of, power_of, reach_code, scale_code, scaled, step_code, step_spot, steps_code, steps_spot}
-use Rattle.op_expand.specs.Primitives.{destination_register, operands_code, operands_passed, primitive_code, routine_of}
+use Rattle.op_places.specs.Homes.{parameter, rounded}
+use Rattle.op_expand.specs.Actions.{action_code, begun_by, begun_code, composite_begun, zeros_begun, number_begun, parts_begun, row_of}
+use Rattle.op_places.specs.Moves.{by_words, bytes_code, copy_code, copy_number, held, is_short, limit_of, load_code, load_op, near, store_code, store_op, taken_code, unit_code, units_code, units_in}
+use Rattle.op_places.specs.Places.{after, at_register, behind_code, element_code, home_code, home_of, home_spot, index_code, place_code, place_of, power_of, reach_code, scale_code, scaled, step_code, step_spot, steps_code, steps_spot}
+use Rattle.op_primitives.specs.Primitives.{destination_register, operands_code, operands_passed, primitive_code, routine_of}
 use Rattle.op_expand.specs.Routines.{instruction_code}
-use Rattle.op_expand.specs.declared.frame.Frame.{Frame}
-use Rattle.op_expand.specs.declared.frame.Returning.{Returning}
-use Rattle.op_expand.specs.declared.frame.Returning.TheVariants.{Ending, Nothing, Result}
-use Rattle.op_expand.specs.declared.homes.Home.{Home}
-use Rattle.op_expand.specs.declared.homes.Home.TheVariants.{Held, Stored, Shared}
-use Rattle.op_expand.specs.declared.spot.Spot.{Spot}
+use Rattle.op_places.specs.declared.frame.Frame.{Frame}
+use Rattle.op_places.specs.declared.frame.Returning.{Returning}
+use Rattle.op_places.specs.declared.frame.Returning.TheVariants.{Ending, Nothing, Result}
+use Rattle.op_places.specs.declared.homes.Home.{Home}
+use Rattle.op_places.specs.declared.homes.Home.TheVariants.{Held, Stored, Shared}
+use Rattle.op_places.specs.declared.spot.Spot.{Spot}
 use Rattle.op_low.specs.declared.ids.VirtualRegister.{VirtualRegister}
 use Rattle.op_low.specs.declared.instruction.Instruction.TheVariants.{Alu, Branch, Const, Local as LocalAddress, Load as LoadWord, Return as LowReturn, Shift, Store as StoreWord, Exit, Move}
 use Rattle.op_meaning.specs.Shapes.{shape_of, type_of_row}

@@ -22,7 +22,7 @@ use Rattle.op_core.specs.declared.routine.Owner.TheVariants.{Unit as OfUnit}
 use Rattle.op_core.specs.declared.routine.Routine.{Routine as Row}
 use Rattle.op_expand.specs.Calls.{has_closing}
 use Rattle.op_expand.specs.Closing.{closing_routines, closing_routine}
-use Rattle.op_expand.specs.Frames.{parameters_of}
+use Rattle.op_places.specs.Frames.{parameters_of}
 use Rattle.op_expand.specs.Programs.{low_of, routines_from}
 use Rattle.op_expand.specs.Routines.{low_routine}
 use Rattle.op_frames.specs.Counted.{AreCountedStatements}

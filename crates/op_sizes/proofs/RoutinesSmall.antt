@@ -13,14 +13,14 @@ use Rattle.op_core.specs.declared.program.Unit.{Unit as UnitRow}
 use Rattle.op_core.specs.declared.routine.Body.{Body}
 use Rattle.op_core.specs.declared.routine.Routine.{Routine as Row}
 use Rattle.op_core.specs.declared.routine.Variable.{Variable}
-use Rattle.op_expand.specs.Frames.{frame_of, parameters_of}
-use Rattle.op_expand.specs.Homes.{home_at, parameter}
+use Rattle.op_places.specs.Frames.{frame_of, parameters_of}
+use Rattle.op_places.specs.Homes.{home_at, parameter}
 use Rattle.op_expand.specs.Routines.{all_blocks, all_received, beginning, blocks_of as low_blocks, code_of, error_blocks, instruction_code, low_routine, most_charge, received, received_number}
-use Rattle.op_expand.specs.declared.frame.Frame.{Frame}
-use Rattle.op_expand.specs.declared.frame.Returning.{Returning}
-use Rattle.op_expand.specs.declared.frame.Returning.TheVariants.{Ending, Nothing, Result}
-use Rattle.op_expand.specs.declared.homes.Home.{Home}
-use Rattle.op_expand.specs.declared.homes.Home.TheVariants.{Held, Stored, Shared}
+use Rattle.op_places.specs.declared.frame.Frame.{Frame}
+use Rattle.op_places.specs.declared.frame.Returning.{Returning}
+use Rattle.op_places.specs.declared.frame.Returning.TheVariants.{Ending, Nothing, Result}
+use Rattle.op_places.specs.declared.homes.Home.{Home}
+use Rattle.op_places.specs.declared.homes.Home.TheVariants.{Held, Stored, Shared}
 use Rattle.op_frames.proofs.MadeLemmas.{every_append}
 use Rattle.op_frames.specs.Counted.{AreCountedStatements}
 use Rattle.op_frames.specs.Made.{Every}

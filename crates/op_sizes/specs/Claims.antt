@@ -7,10 +7,10 @@ use Rattle.op_core.specs.Sound.{IsSound}
 use Rattle.op_core.specs.declared.program.Core.{Core}
 use Rattle.op_core.specs.declared.routine.Owner.TheVariants.{Unit as OfUnit}
 use Rattle.op_core.specs.declared.routine.Routine.{Routine as Row}
-use Rattle.op_expand.specs.Frames.{parameters_of}
+use Rattle.op_places.specs.Frames.{parameters_of}
 use Rattle.op_expand.specs.Programs.{low_of}
 use Rattle.op_expand.specs.Routines.{instruction_code, low_routine}
-use Rattle.op_expand.specs.declared.frame.Frame.{Frame}
+use Rattle.op_places.specs.declared.frame.Frame.{Frame}
 use Rattle.op_frames.specs.Counted.{AreCountedStatements}
 use Rattle.op_frames.specs.Made.{Every}
 use Rattle.op_layout.specs.Places.{layout_of}

@@ -2,8 +2,8 @@
 use Rattle.std.proofs.Common.{List, [], ◌∷◌, ◌++◌}
 use Rattle.std.proofs.lemmas.Bool.{or_left, or_right}
 use Rattle.std.specs.List.{list_any}
-use Rattle.op_expand.proofs.RoomLemmas.{one_with_itself}
-use Rattle.op_expand.specs.Homes.{is_one_root}
+use Rattle.op_places.proofs.RoomLemmas.{one_with_itself}
+use Rattle.op_places.specs.Homes.{is_one_root}
 use Rattle.op_frames.specs.Made.{Every}
 use Rattle.op_frames.specs.Wholes.{IsWholeIn}
 use Rattle.op_mir.specs.View.{view_root}

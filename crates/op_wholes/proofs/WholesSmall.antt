@@ -12,7 +12,7 @@ use Rattle.op_core.specs.declared.program.Core.{Core}
 use Rattle.op_core.specs.declared.routine.Variable.{Variable}
 use Rattle.op_core.specs.declared.types.CoreType.{CoreType}
 use Rattle.op_core.specs.declared.types.CoreType.TheVariants.{Array, Record}
-use Rattle.op_expand.specs.Homes.{rounded, size_of_root}
+use Rattle.op_places.specs.Homes.{rounded, size_of_root}
 use Rattle.op_meaning.specs.Charge.{words_of, words_in, value_words, valued, root_weight, expression_weight, steps_weight, action_weight, elements_weight, element_weight, arguments_weight, argument_weight, item_weight, items_weight, built_in_weight, counter_weight, statement_weight, statements_weight, branches_weight}
 use Rattle.op_meaning.specs.Shapes.{shape_by, shape_of}
 use Rattle.op_mir.specs.declared.path.Root.{Root}

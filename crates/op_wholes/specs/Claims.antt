@@ -9,8 +9,8 @@ use Rattle.op_core.specs.declared.program.Core.{Core}
 use Rattle.op_core.specs.declared.routine.Body.{Body}
 use Rattle.op_core.specs.declared.routine.Role.TheVariants.{Object}
 use Rattle.op_core.specs.declared.routine.Routine.{Routine as Row}
-use Rattle.op_expand.specs.Frames.{frame_of, parameters_of}
-use Rattle.op_expand.specs.Homes.{size_of_root}
+use Rattle.op_places.specs.Frames.{frame_of, parameters_of}
+use Rattle.op_places.specs.Homes.{size_of_root}
 use Rattle.op_frames.specs.Charged.{IsCharged}
 use Rattle.op_frames.specs.Counted.{AreCountedStatements}
 use Rattle.op_frames.specs.Fitting.{registers_of_routine}

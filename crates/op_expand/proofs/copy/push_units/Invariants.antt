@@ -1,7 +1,0 @@
-use Rattle.std.proofs.Common.{◌≡◌, ◌++◌}
-use Rattle.op_expand.specs.Moves.{units_code}
-use Rattle.op_expand.proofs.copy.push_units.Given as goal
-
-abbrev pub invariant-loop-n : goal.invariant-loop-n
-invariant-loop-n l =
-    l.code.items ≡ l.fn.code.items ++ units_code l.words l.n l.from l.to

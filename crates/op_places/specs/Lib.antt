@@ -1,0 +1,4 @@
+pub mod Frames
+pub mod Homes
+pub mod Moves
+pub mod Places
