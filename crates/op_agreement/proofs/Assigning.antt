@@ -20,7 +20,7 @@ use Rattle.op_low.specs.declared.instruction.Instruction.{Instruction as LowInst
 use Rattle.op_meaning.specs.Actions.{at_place, perform}
 use Rattle.op_meaning.specs.Paths.{place_of as place_meant}
 use Rattle.op_meaning.specs.Shapes.{composite, shape_of}
-use Rattle.op_meaning.specs.Values.{Place, number_in}
+use Rattle.op_meaning.specs.Values.{Place, number_in, Reached as Met, reached as met, failing}
 use Rattle.op_meaning.specs.World.{value_at, with_value}
 use Rattle.op_mir.proofs.PlainLemmas.{plain_perform}
 use Rattle.op_mir.specs.Machine.{MirState, execute, mir_step, mir_cost}
@@ -121,15 +121,15 @@ module _ (g : Setting) (fit : IsFitting g) (m : MirState) (l : State) (floors : 
 
     -- ---- the step of managed code
 
-    abbrev copied : Option Place → Option Place → MirState
+    abbrev copied : Met Place → Met Place → MirState
     copied o p = record m { world = at_place g.core o (λ q. at_place g.core p (λ t. with_value t (value_at m.world q) m.world) m.world) m.world; work = rest_above g m l floors (Act (Copy of to from) landing) is next }
 
     -- as an equation, and that its world is plain
-    copy_step : (o p : Option Place) → place_meant m.world (view_path from) ≡ o → place_meant m.world (view_path to) ≡ p → mir_step (managed g) m ≡ copied o p
+    copy_step : (o p : Met Place) → place_meant m.world (view_path from) ≡ o → place_meant m.world (view_path to) ≡ p → mir_step (managed g) m ≡ copied o p
     unfolding execute perform
     copy_step o p e f = step_here g fit m l floors (Act (Copy of to from) landing) is next ∙ ap₂ copied e f
 
-    copy_plain : (o p : Option Place) → place_meant m.world (view_path from) ≡ o → place_meant m.world (view_path to) ≡ p → IsPlainWorld (copied o p).world
+    copy_plain : (o p : Met Place) → place_meant m.world (view_path from) ≡ o → place_meant m.world (view_path to) ≡ p → IsPlainWorld (copied o p).world
     unfolding perform
     copy_plain o p e f =
         let plain : IsPlainWorld (copied (place_meant m.world (view_path from)) (place_meant m.world (view_path to))).world = plain_perform g.core fit.program.exceptions (view_action g.core (here m floors).number (Copy of to from)) m.world next.stays.plain in
@@ -166,13 +166,13 @@ module _ (g : Setting) (fit : IsFitting g) (m : MirState) (l : State) (floors : 
     abbrev behind_source : List LowInstruction
     behind_source = target_code ++ (copies ++ rest)
 
-    module _ (q p : Place) (e : place_meant m.world (view_path from) ≡ Some q) (f : place_meant m.world (view_path to) ≡ Some p) where
+    module _ (q p : Place) (e : place_meant m.world (view_path from) ≡ met q) (f : place_meant m.world (view_path to) ≡ met p) where
       -- the state to which the code comes stands for the one in which the value is copied
-      behind_copies : (h memory : ℕ → ℕ) → Goes g 1 (place_most from + place_most to + copy_most (size_in g.core of)) l (having l h rest memory) → Stays g floors (copied (Some q) (Some p)) (having l h rest memory) → Comes g m l
+      behind_copies : (h memory : ℕ → ℕ) → Goes g 1 (place_most from + place_most to + copy_most (size_in g.core of)) l (having l h rest memory) → Stays g floors (copied (met q) (met p)) (having l h rest memory) → Comes g m l
       behind_copies h memory goes stays = record {
         to = having l h rest memory;
         goes = goes_within g 1 (most_for_one * mir_cost (managed g) m) l (having l h rest memory) goes (afford g fit m l floors (Act (Copy of to from) landing) is next (λ light. light) (place_most from + place_most to + copy_most (size_in g.core of)) (omega arith));
-        stands = subst (λ x. Stands g x (having l h rest memory)) (sym (copy_step (Some q) (Some p) e f)) (stands_on g (copied (Some q) (Some p)) (having l h rest memory) next.ending next.frames (record {
+        stands = subst (λ x. Stands g x (having l h rest memory)) (sym (copy_step (met q) (met p) e f)) (stands_on g (copied (met q) (met p)) (having l h rest memory) next.ending next.frames (record {
           floors = floors;
           stays = stays;
           position = rest_stands g m l floors (Act (Copy of to from) landing) is next (behind_act next.on);
@@ -186,7 +186,7 @@ module _ (g : Setting) (fit : IsFitting g) (m : MirState) (l : State) (floors : 
       temporaries_kept : (n : ℕ → ℕ) → KeptBelow free.0 l.top.registers n → Temporaries (here m floors) m.world.temps n
       temporaries_kept n kept t low =
           let scratch = next.stays.activation.floor.fits.scratch in
-          subst (λ y. IsWordOf y (number_in (m.world.temps t))) (sym (kept ((here m floors).frame.bank.temporaries + t) (omega arith))) (next.stays.activation.kept.temporaries t low)
+          subst (λ y. IsWordOf y (m.world.temps t)) (sym (kept ((here m floors).frame.bank.temporaries + t) (omega arith))) (next.stays.activation.kept.temporaries t low)
 
       variables_kept : (n : ℕ → ℕ) → KeptBelow free.0 l.top.registers n → SameVariables (here m floors) l.top.registers n
       variables_kept n kept r low = let scratch = next.stays.activation.floor.fits.scratch in kept r (omega arith)
@@ -216,7 +216,7 @@ module _ (g : Setting) (fit : IsFitting g) (m : MirState) (l : State) (floors : 
               behind_copies h l.memory
               (goes_within g 1 (place_most from + place_most to + copy_most (size_in g.core of)) l (at l h rest)
               (goes_then g 0 1 1 l (at l second.h (copies ++ rest)) (at l h rest) (omega arith) before (none_goes g l low words (size_in g.core of) source target second.h rest none)) (omega arith))
-              (stays_nothing g fit m l floors next.stays of small p b second.is none (value_at m.world q) (rest_above g m l floors (Act (Copy of to from) landing) is next) h rest (copy_plain (Some q) (Some p) e f) (variables_kept h kept) (temporaries_kept h kept))
+              (stays_nothing g fit m l floors next.stays of small p b second.is none (value_at m.world q) (rest_above g m l floors (Act (Copy of to from) landing) is next) h rest (copy_plain (met q) (met p) e f) (variables_kept h kept) (temporaries_kept h kept))
           by (inl some) =
               let (source_base, source_more, source_near) = source_fits in
               let (target_base, target_more, target_near) = target_fits in
@@ -230,21 +230,21 @@ module _ (g : Setting) (fit : IsFitting g) (m : MirState) (l : State) (floors : 
               let kept = kept_all first.h second.h it.h first.kept second.kept it.kept in
               behind_copies it.h it.memory
               (goes_then g 0 1 1 l (at l second.h (copies ++ rest)) (having l it.h rest it.memory) (omega arith) before it.goes)
-              (stays_copied g fit m l floors next.stays of small q p a b first.is second.is some it.memory it.copied (rest_above g m l floors (Act (Copy of to from) landing) is next) it.h rest (copy_plain (Some q) (Some p) e f) (variables_kept it.h kept) (temporaries_kept it.h kept))
+              (stays_copied g fit m l floors next.stays of small q p a b first.is second.is some it.memory it.copied (rest_above g m l floors (Act (Copy of to from) landing) is next) it.h rest (copy_plain (met q) (met p) e f) (variables_kept it.h kept) (temporaries_kept it.h kept))
 
     -- ---- one after the other
 
     -- the target, behind the source
-    target_by : (q : Place) → place_meant m.world (view_path from) ≡ Some q → (least : ℕ) → (first : Reached g fit m l floors next.stays least (place_most from) l l.top.registers free source behind_source q of) → (p : Option Place) → place_meant m.world (view_path to) ≡ p → (more : ℕ) → PlaceTo g fit m l floors next.stays more (place_most to) (at l first.h behind_source) first.h source.free target (copies ++ rest) of p → Comes g m l
-    target_by q e least first None f more fails =
-        let all : Failed g fit m l floors next.stays 0 (place_most from + place_most to) l = record { h = fails.h; goes = goes_then g least more 0 l (at l first.h behind_source) (at l fails.h (block_of g.low l.top.routine (error_block_of (here m floors).frame.bank RangeCheck).0)) (omega arith) first.goes fails.goes } in
-        index_fails g fit m l floors is (Act (Copy of to from) landing) next 0 (place_most from + place_most to) l refl all (afford g fit m l floors (Act (Copy of to from) landing) is next (λ light. light) (place_most from + place_most to + 5) (omega arith)) (copy_step (Some q) None e f)
-    target_by q e least first (Some p) f more second = both_reached q p e f least first more second
+    target_by : (q : Place) → place_meant m.world (view_path from) ≡ met q → (least : ℕ) → (first : Reached g fit m l floors next.stays least (place_most from) l l.top.registers free source behind_source q of) → (p : Met Place) → place_meant m.world (view_path to) ≡ p → (more : ℕ) → PlaceTo g fit m l floors next.stays more (place_most to) (at l first.h behind_source) first.h source.free target (copies ++ rest) of p → Comes g m l
+    target_by q e least first (failing error) f more fails =
+        let all : Failed g fit m l floors next.stays 0 (place_most from + place_most to) l error = record { is = fails.is; h = fails.h; goes = goes_then g least more 0 l (at l first.h behind_source) (at l fails.h (block_of g.low l.top.routine (error_block_of (here m floors).frame.bank RangeCheck).0)) (omega arith) first.goes fails.goes } in
+        index_fails g fit m l floors is (Act (Copy of to from) landing) next 0 (place_most from + place_most to) l error refl all (afford g fit m l floors (Act (Copy of to from) landing) is next (λ light. light) (place_most from + place_most to + 5) (omega arith)) (copy_step (met q) (failing error) e f)
+    target_by q e least first (met p) f more second = both_reached q p e f least first more second
 
     -- the source
-    source_by : (o : Option Place) → place_meant m.world (view_path from) ≡ o → (least : ℕ) → PlaceTo g fit m l floors next.stays least (place_most from) l l.top.registers free source behind_source of o → Comes g m l
-    source_by None e least fails = index_fails g fit m l floors is (Act (Copy of to from) landing) next least (place_most from) l refl fails (afford g fit m l floors (Act (Copy of to from) landing) is next (λ light. light) (place_most from + 5) (omega arith)) (copy_step None (place_meant m.world (view_path to)) e refl)
-    source_by (Some q) e least first =
+    source_by : (o : Met Place) → place_meant m.world (view_path from) ≡ o → (least : ℕ) → PlaceTo g fit m l floors next.stays least (place_most from) l l.top.registers free source behind_source of o → Comes g m l
+    source_by (failing error) e least fails = index_fails g fit m l floors is (Act (Copy of to from) landing) next least (place_most from) l error refl fails (afford g fit m l floors (Act (Copy of to from) landing) is next (λ light. light) (place_most from + 5) (omega arith)) (copy_step (failing error) (place_meant m.world (view_path to)) e refl)
+    source_by (met q) e least first =
         let (base, more, offset) = source_fits in
         target_by q e least first (place_meant m.world (view_path to)) refl (fewest_steps target_code)
         (place_goes g fit m l floors next.stays to of limit source.free first.h (copies ++ rest) to_typed to_placed indices.0 (omega arith) (λ r low. first.kept r (omega arith)))

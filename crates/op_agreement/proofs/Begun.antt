@@ -213,7 +213,7 @@ module _ (g : Setting) (fit : IsFitting g) (floors : ℕ → Floor) (m : MirStat
               variables = λ u r known at_. subst (λ w. IsWordOf w (number_in (values (local level u)))) (sym (held u r known.0 at_)) (subst (λ y. IsWordOf (l.top.registers r) (number_in y)) (value_here u r at_) (a.kept.variables u r known at_));
               references = λ u known. subst (IsAt g floors level (m.world.bound level u) _) (sym (held u (parameter u) known.0 (fits.references (record { 0 = u }) known))) (a.kept.references u known);
               words = λ u known. subst (λ w. w < 2 ^ 32) (sym (held u (parameter u) known.0 (fits.references (record { 0 = u }) known))) (a.kept.words u known);
-              temporaries = λ t low. subst (λ w. IsWordOf w (number_in (m.world.temps t))) (sym (same ((here m floors).frame.bank.temporaries + t) (omega arith) (spare.temporaries t low))) (a.kept.temporaries t low);
+              temporaries = λ t low. subst (λ w. IsWordOf w (m.world.temps t)) (sym (same ((here m floors).frame.bank.temporaries + t) (omega arith) (spare.temporaries t low))) (a.kept.temporaries t low);
             };
             left = ap (λ w. w + m.charged) zeroth ∙ a.left;
             base = a.base;

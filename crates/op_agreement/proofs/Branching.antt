@@ -222,7 +222,7 @@ module _ (g : Setting) (fit : IsFitting g) (m : MirState) (l : State) (floors : 
                   floors = floors;
                   stays = stays_registers g floors m l m.world.temps (block_at ((managed g).blocks m.routine) k) h (block_of g.low l.top.routine block.0)
                       (all_variables_kept g (here m floors) a.floor.fits l.top.registers h kept)
-                      (temporaries_kept g (here m floors) a.floor.fits m.world.temps l.top.registers h kept a.kept.temporaries) s.plain.temps s;
+                      (temporaries_kept g (here m floors) a.floor.fits m.world.temps l.top.registers h kept a.kept.temporaries) s;
                   position = subst (λ x. Position g (here m floors) x (block_of g.low l.top.routine block.0)) (ap (λ bs. block_at bs k) blocks) (subst (Position g (here m floors) (block_at ((managed g).blocks (here m floors).number) k)) low position);
                 }));
           }

@@ -1,6 +1,6 @@
 -- A routine returns a value, and the caller that waits for it goes on.
 use Rattle.std.proofs.Common.{◌≡◌, ◌≢◌, ◌≤◌, ◌<◌, ◌⊎◌, inl, inr, ℕ, suc, ◌+◌, ◌-◌, List, [], ◌∷◌, length, Some, None, sym, ap, ap₂, ◌∙◌, subst, arith, refl}
-use Rattle.std.specs.Prelude.{Bool, true, false, nat_eq, slice_get, if◌then◌else◌}
+use Rattle.std.specs.Prelude.{Bool, true, false, nat_eq, slice_get, if◌then◌else◌, ℤ}
 use Rattle.std.proofs.lemmas.Bool.{cases_eq}
 use Rattle.std.proofs.lemmas.Bool.Decides.{nat_tests}
 use Rattle.op_compute.specs.Bank.{scratch_of}
@@ -16,7 +16,6 @@ use Rattle.op_meaning.specs.Expressions.{result_of}
 use Rattle.op_meaning.specs.Values.{Value, number_in}
 use Rattle.op_meaning.specs.World.{Running as GoingOn}
 use Rattle.op_mir.specs.Machine.{MirCaller, MirState}
-use Rattle.op_mir.specs.Plain.{IsNameless}
 use Rattle.op_mir.specs.View.{view_receiver}
 use Rattle.op_mir.specs.declared.instruction.Receiver.{Receiver as DeclaredReceiver}
 use Rattle.op_agreement.proofs.Copying.{having}
@@ -44,7 +43,7 @@ pub record Waits (g : Setting) (floors : ℕ → Floor) (m : MirState) (l : Stat
   pub to : lc.to ≡ receiver_of (floors (length cs)).frame declared (scratch_of (floors (length cs)).frame.bank 0)
   pub typed : IsTypedReceiver g.core c.receiver (result_of (slice_get g.core.routines m.routine))
   pub result : ResultGoes g floors (length cs) declared c.receiver lc (l.top.registers result_address.0)
-  pub nameless : (t : ℕ) → IsNameless (c.temps t)
+  pub waiting : (t : ℕ) → c.waiting t ≡ None
   pub made : c.made ≡ []
   pub position : Position g (floors (length cs)) c.work lc.activation.now
   pub activation : ActivationStands g floors (length cs) m.world.memory m.world.bound c.temps c.routine lc.activation below spare under
@@ -52,7 +51,7 @@ pub record Waits (g : Setting) (floors : ℕ → Floor) (m : MirState) (l : Stat
 
 waits_by : (g : Setting) (floors : ℕ → Floor) (m : MirState) (l : State) (c : MirCaller) (cs : List MirCaller) (lc : Caller) (lcs : List Caller) (of : TypeId) → result_of (slice_get g.core.routines m.routine) ≡ Some of → CallersStand g floors m.world.memory m.world.bound (c ∷ cs) (lc ∷ lcs) m.routine (l.top.registers result_address.0) l.limit l.room m.charged → Waits g floors m l c cs lc lcs
 waits_by g floors m l c cs lc lcs of some (inr (below, under, spare, status, a, ended, others, are, charge, at_, more, closing, activation, callers)) = let clash : None ≡ Some of = sym closing.result ∙ some in absurd cc
-waits_by g floors m l c cs lc lcs of some (inl (below, under, spare, declared, low, charge, at_, more, frames, receiver, to, typed, result, nameless, made, position, activation, callers)) =
+waits_by g floors m l c cs lc lcs of some (inl (below, under, spare, declared, low, charge, at_, more, frames, receiver, to, typed, result, waiting, made, position, activation, callers)) =
     record {
       below = below;
       under = under;
@@ -67,7 +66,7 @@ waits_by g floors m l c cs lc lcs of some (inl (below, under, spare, declared, l
       to = to;
       typed = typed;
       result = result;
-      nameless = nameless;
+      waiting = waiting;
       made = made;
       position = position;
       activation = activation;
@@ -84,9 +83,9 @@ module _ (g : Setting) (fit : IsFitting g) (m : MirState) (l : State) (floors : 
   lower = let at_ = w.limit in omega arith
 
   -- the caller goes on with these temporaries, and in low code with this value in its register
-  abbrev pub gone_above : (ℕ → Value) → MirState
+  abbrev pub gone_above : (ℕ → ℤ) → MirState
   gone_above temps = record {
-    world = record m.world { temps = temps; made = c.made; depth = m.world.depth - 1 };
+    world = record m.world { temps = temps; waiting = c.waiting; made = c.made; depth = m.world.depth - 1 };
     routine = c.routine;
     work = c.work;
     frames = c.frames;
@@ -123,31 +122,26 @@ module _ (g : Setting) (fit : IsFitting g) (m : MirState) (l : State) (floors : 
   pub gone_scratch : m.world.ending ≡ GoingOn → lc.to.0 ≡ (floors (length cs)).frame.bank.scratch → (v : ℕ) → Stands g (gone_above c.temps) (gone_below v)
   gone_scratch ending to_is v =
       let scratch = w.activation.floor.fits.scratch in
-      back_stands g fit m l floors s c cs lc lcs above w.below w.spare w.under w.frames w.nameless w.made w.position w.activation w.callers lower c.temps lc.to v
+      back_stands g fit m l floors s c cs lc lcs above w.below w.spare w.under w.frames w.waiting w.made w.position w.activation w.callers lower c.temps lc.to v
       (λ r less. register_kept v r (λ same. omega arith))
-      (λ t less. subst (λ x. IsWordOf x (number_in (c.temps t))) (sym (register_kept v ((floors (length cs)).frame.bank.temporaries + t) (λ same. omega arith))) (w.activation.kept.temporaries t less))
-      w.nameless ending
+      (λ t less. subst (λ x. IsWordOf x (c.temps t)) (sym (register_kept v ((floors (length cs)).frame.bank.temporaries + t) (λ same. omega arith))) (w.activation.kept.temporaries t less))
+      ending
 
   -- the value is that of a temporary of the caller
-  pub gone_temporary : m.world.ending ≡ GoingOn → (t : ℕ) → lc.to.0 ≡ (floors (length cs)).frame.bank.temporaries + t → (v : ℕ) (x : Value) → IsWordOf v (number_in x) → IsNameless x → Stands g (gone_above (λ u. if nat_eq u t then x else c.temps u)) (gone_below v)
-  gone_temporary ending t to_is v x word plain =
-      back_stands g fit m l floors s c cs lc lcs above w.below w.spare w.under w.frames w.nameless w.made w.position w.activation w.callers lower (λ u. if nat_eq u t then x else c.temps u) lc.to v
+  pub gone_temporary : m.world.ending ≡ GoingOn → (t : ℕ) → lc.to.0 ≡ (floors (length cs)).frame.bank.temporaries + t → (v : ℕ) (x : ℤ) → IsWordOf v x → Stands g (gone_above (λ u. if nat_eq u t then x else c.temps u)) (gone_below v)
+  gone_temporary ending t to_is v x word =
+      back_stands g fit m l floors s c cs lc lcs above w.below w.spare w.under w.frames w.waiting w.made w.position w.activation w.callers lower (λ u. if nat_eq u t then x else c.temps u) lc.to v
       (λ r less. register_kept v r (λ same. omega arith))
-      (λ u less. by u less (cases_eq u t))
-      (λ u. either (nat_eq u t) u) ending
+      (λ u less. by u less (cases_eq u t)) ending
     where
-      by : (u : ℕ) → u < (floors (length cs)).routine.temporaries → (u ≡ t) ⊎ (u ≡ t → ⊥) → IsWordOf ((with_value lc.to v lc.activation).registers ((floors (length cs)).frame.bank.temporaries + u)) (number_in (if nat_eq u t then x else c.temps u))
+      by : (u : ℕ) → u < (floors (length cs)).routine.temporaries → (u ≡ t) ⊎ (u ≡ t → ⊥) → IsWordOf ((with_value lc.to v lc.activation).registers ((floors (length cs)).frame.bank.temporaries + u)) (if nat_eq u t then x else c.temps u)
       by u less (inl same) =
           let test : nat_eq u t ≡ true = grind (arith, nat_tests) in
           let there : (floors (length cs)).frame.bank.temporaries + u ≡ lc.to.0 = omega arith in
           let is : nat_eq ((floors (length cs)).frame.bank.temporaries + u) lc.to.0 ≡ true = grind (arith, nat_tests) in
-          subst (λ b. IsWordOf (if b then v else lc.activation.registers ((floors (length cs)).frame.bank.temporaries + u)) (number_in (if nat_eq u t then x else c.temps u))) (sym is)
-          (subst (λ b. IsWordOf v (number_in (if b then x else c.temps u))) (sym test) word)
+          subst (λ b. IsWordOf (if b then v else lc.activation.registers ((floors (length cs)).frame.bank.temporaries + u)) (if nat_eq u t then x else c.temps u)) (sym is)
+          (subst (λ b. IsWordOf v (if b then x else c.temps u)) (sym test) word)
       by u less (inr other) =
           let test : nat_eq u t ≡ false = grind (arith, nat_tests) in
-          subst (λ y. IsWordOf y (number_in (if nat_eq u t then x else c.temps u))) (sym (register_kept v ((floors (length cs)).frame.bank.temporaries + u) (λ same. other (omega arith))))
-          (subst (λ b. IsWordOf (lc.activation.registers ((floors (length cs)).frame.bank.temporaries + u)) (number_in (if b then x else c.temps u))) (sym test) (w.activation.kept.temporaries u less))
-
-      either : (b : Bool) (u : ℕ) → IsNameless (if b then x else c.temps u)
-      either true u = plain
-      either false u = w.nameless u
+          subst (λ y. IsWordOf y (if nat_eq u t then x else c.temps u)) (sym (register_kept v ((floors (length cs)).frame.bank.temporaries + u) (λ same. other (omega arith))))
+          (subst (λ b. IsWordOf (lc.activation.registers ((floors (length cs)).frame.bank.temporaries + u)) (if b then x else c.temps u)) (sym test) (w.activation.kept.temporaries u less))

@@ -9,6 +9,8 @@ use Rattle.op_compute.specs.declared.bank.RuntimeError.TheVariants.{StackOverflo
 use Rattle.op_core.proofs.Rows.{there_is}
 use Rattle.op_core.specs.declared.ids.RoutineId.{RoutineId}
 use Rattle.op_expand.specs.Calls.{call_code, charge_of, charging_code, givens_code, givens_in, receiver_code, receiver_of, receiver_spot, runtime, given_spot}
+use Rattle.op_meaning.specs.Frames.{Handed}
+use Rattle.op_meaning.specs.Values.{Reached as Met, reached as met, failing}
 use Rattle.op_places.specs.Frames.{parameters_of}
 use Rattle.op_places.specs.declared.frame.Frame.{Frame}
 use Rattle.op_places.specs.declared.spot.Spot.{Spot}
@@ -16,7 +18,7 @@ use Rattle.op_low.specs.Machine.{act, call as call_below, can_enter}
 use Rattle.op_low.specs.State.{Ending, Running, State, bad, block_of, routine_of, space, value_in}
 use Rattle.op_low.specs.declared.ids.VirtualRegister.{VirtualRegister}
 use Rattle.op_low.specs.declared.instruction.Instruction.{Instruction as LowInstruction}
-use Rattle.op_meaning.specs.Calls.{Handed, all_handed, called_with}
+use Rattle.op_meaning.specs.Calls.{all_handed}
 use Rattle.op_meaning.specs.Expressions.{result_of}
 use Rattle.op_mir.specs.Machine.{MirState, execute, mir_step, mir_cost, code_rules}
 use Rattle.op_mir.specs.Valid.{all_given_fit}
@@ -28,7 +30,7 @@ use Rattle.op_mir.specs.declared.instruction.Instruction.TheVariants.{Call}
 use Rattle.op_mir.specs.declared.instruction.Instruction.{Instruction}
 use Rattle.op_rt_text.specs.Names.{call as low_call}
 use Rattle.op_agreement.proofs.Branching.{begins_here, step_here}
-use Rattle.op_agreement.proofs.Charging.{HasRoomFor, begun_above, begun_over, begun_under, charge_above, charge_below, charge_over, charged_left, charged_other, charged_registers, has_charge, over_charged, parameters_are, room_for}
+use Rattle.op_agreement.proofs.Charging.{HasRoomFor, begun_above, begun_over, begun_under, charge_above, charge_below, charge_over, charged_left, charged_other, charged_registers, has_charge, over_charged, parameters_are, room_for, call_is, goes_in_with}
 use Rattle.op_agreement.proofs.Computing.{rest_above, rest_below}
 use Rattle.op_agreement.proofs.Elements.{KeptBelow}
 use Rattle.op_agreement.proofs.ErrorsEnd.{error_ends}
@@ -98,13 +100,16 @@ module _ (g : Setting) (fit : IsFitting g) (m : MirState) (l : State) (floors : 
   behind_call = record m { work = rest_above g m l floors (Call callee call) js next }
 
   -- the step above, by what is handed over
-  stepped : (o : Option (List Handed)) → all_handed m.world (map view_given call.given) ≡ o → mir_step (managed g) m ≡ called_with (code_rules (managed g)) callee.0 (view_receiver call.receiver) behind_call.work o behind_call
+  stepped : (o : Met (List Handed)) → all_handed m.world (map view_given call.given) ≡ o → mir_step (managed g) m ≡ goes_in_with (managed g) callee.0 (view_receiver call.receiver) o behind_call
   unfolding execute
-  stepped o e = step_here g fit m l floors (Call callee call) js next ∙ ap (λ o. called_with (code_rules (managed g)) callee.0 (view_receiver call.receiver) behind_call.work o behind_call) e
+  stepped o e =
+      step_here g fit m l floors (Call callee call) js next
+      ∙ call_is (managed g) fit.program.outs callee.0 (view_receiver call.receiver) (all_handed m.world (map view_given call.given)) behind_call
+      ∙ ap (λ o. goes_in_with (managed g) callee.0 (view_receiver call.receiver) o behind_call) e
 
   -- where the stack has room, the routine begins above
-  pub step_begins : (given : List Handed) → all_handed m.world (map view_given call.given) ≡ Some given → nat_lt g.stack (m.charged + (managed g).charge callee.0) ≡ false → mir_step (managed g) m ≡ begun_above (managed g) callee.0 (view_receiver call.receiver) given behind_call
-  step_begins given e under = stepped (Some given) e ∙ begun_under (managed g) callee.0 (view_receiver call.receiver) given behind_call under
+  pub step_begins : (given : List Handed) → all_handed m.world (map view_given call.given) ≡ met given → nat_lt g.stack (m.charged + (managed g).charge callee.0) ≡ false → mir_step (managed g) m ≡ begun_above (managed g) callee.0 (view_receiver call.receiver) given behind_call
+  step_begins given e under = stepped (met given) e ∙ begun_under (managed g) callee.0 (view_receiver call.receiver) given behind_call under
 
   -- the low machine enters the routine
   abbrev entered_with : (ℕ → ℕ) → Ending → State
@@ -174,7 +179,7 @@ module _ (g : Setting) (fit : IsFitting g) (m : MirState) (l : State) (floors : 
 
   -- ---- behind the arguments: error 202, or the routine begins
 
-  module _ (given : List Handed) (handed : all_handed m.world (map view_given call.given) ≡ Some given) (result : ResultGiven g fit m l floors next.stays before spot (all_given_code ++ (charging ++ (entering ∷ rest))) call.receiver) (args : AreGiven g fit m l floors (Call callee call) js next (all_most g fit m l floors (Call callee call) js next call.given) (at l result.h (all_given_code ++ (charging ++ (entering ∷ rest)))) result.h spot.free bases (charging ++ (entering ∷ rest)) (parameter_rows g.core callee.0) given) where
+  module _ (given : List Handed) (handed : all_handed m.world (map view_given call.given) ≡ met given) (result : ResultGiven g fit m l floors next.stays before spot (all_given_code ++ (charging ++ (entering ∷ rest))) call.receiver) (args : AreGiven g fit m l floors (Call callee call) js next (all_most g fit m l floors (Call callee call) js next call.given) (at l result.h (all_given_code ++ (charging ++ (entering ∷ rest)))) result.h spot.free bases (charging ++ (entering ∷ rest)) (parameter_rows g.core callee.0) given) where
     abbrev at_charging : State
     at_charging = at l args.h (charging ++ (entering ∷ rest))
 
@@ -218,7 +223,7 @@ module _ (g : Setting) (fit : IsFitting g) (m : MirState) (l : State) (floors : 
         record {
           to = k;
           goes = goes_within g 1 (most_for_one * mir_cost (managed g) m) l k (goes_then g 0 1 1 l at_charging k (omega arith) front_goes (goes_then g 1 5 1 at_charging error_state k (omega arith) away ends)) (front_costs 8 (omega arith));
-          stands = subst (λ y. Stands g y k) (sym (stepped (Some given) handed ∙ begun_over (managed g) callee.0 (view_receiver call.receiver) given behind_call over)) stands;
+          stands = subst (λ y. Stands g y k) (sym (stepped (met given) handed ∙ begun_over (managed g) callee.0 (view_receiver call.receiver) given behind_call over)) stands;
         }
 
     -- the routine begins
@@ -293,8 +298,8 @@ module _ (g : Setting) (fit : IsFitting g) (m : MirState) (l : State) (floors : 
       by result (all_handed m.world (map view_given call.given)) refl
       (all_given g fit m l floors (Call callee call) js next call.given (parameter_rows g.core callee.0) spot.free result.h (charging ++ (entering ∷ rest)) fits typed.gives homes (omega arith) result.kept)
     where
-      by : (result : ResultGiven g fit m l floors next.stays before spot (all_given_code ++ (charging ++ (entering ∷ rest))) call.receiver) (o : Option (List Handed)) → all_handed m.world (map view_given call.given) ≡ o → AllGivenTo g fit m l floors (Call callee call) js next (all_most g fit m l floors (Call callee call) js next call.given) (at l result.h (all_given_code ++ (charging ++ (entering ∷ rest)))) result.h spot.free bases (charging ++ (entering ∷ rest)) (parameter_rows g.core callee.0) o → Comes g m l ⊎ Begins g m l floors callee.0 call rest
-      by result (Some given) e args = charged_by given e result args rows (nat_lt g.stack (m.charged + (managed g).charge callee.0)) refl
-      by result None e fails =
-          let failed_from : Failed g fit m l floors next.stays 0 front_most before = record { h = fails.h; goes = goes_then g 0 0 0 before (at l result.h (all_given_code ++ (charging ++ (entering ∷ rest)))) _ (omega arith) result.goes fails.goes } in
-          inl (index_fails g fit m l floors js (Call callee call) next 0 front_most before stands_before failed_from (front_costs 5 (omega arith)) (stepped None e))
+      by : (result : ResultGiven g fit m l floors next.stays before spot (all_given_code ++ (charging ++ (entering ∷ rest))) call.receiver) (o : Met (List Handed)) → all_handed m.world (map view_given call.given) ≡ o → AllGivenTo g fit m l floors (Call callee call) js next (all_most g fit m l floors (Call callee call) js next call.given) (at l result.h (all_given_code ++ (charging ++ (entering ∷ rest)))) result.h spot.free bases (charging ++ (entering ∷ rest)) (parameter_rows g.core callee.0) o → Comes g m l ⊎ Begins g m l floors callee.0 call rest
+      by result (met given) e args = charged_by given e result args rows (nat_lt g.stack (m.charged + (managed g).charge callee.0)) refl
+      by result (failing error) e fails =
+          let failed_from : Failed g fit m l floors next.stays 0 front_most before error = record { is = fails.is; h = fails.h; goes = goes_then g 0 0 0 before (at l result.h (all_given_code ++ (charging ++ (entering ∷ rest)))) _ (omega arith) result.goes fails.goes } in
+          inl (index_fails g fit m l floors js (Call callee call) next 0 front_most before error stands_before failed_from (front_costs 5 (omega arith)) (stepped (failing error) e))

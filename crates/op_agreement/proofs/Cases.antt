@@ -22,7 +22,6 @@ use Rattle.op_meaning.specs.Leaving.{name_in}
 use Rattle.op_meaning.specs.Machine.{label_has}
 use Rattle.op_meaning.specs.Numbers.{is_true}
 use Rattle.op_meaning.specs.World.{with_number, number_at}
-use Rattle.op_mir.proofs.PlainLemmas.{name_in_nameless}
 use Rattle.op_mir.specs.Machine.{Code, MirState, arm_for, dispatched, execute, go_if, go_to, mir_cost}
 use Rattle.op_mir.specs.Valid.{action_fits, has}
 use Rattle.op_mir.specs.View.{view_arm}
@@ -97,7 +96,7 @@ way_target x n k j low e = first (int_eq n (pos 1)) e
     first false e = second (int_eq n (pos 2)) e
 
 -- behind a finally part nothing is raised again
-dispatched_is : (c : Code) (n : ℤ) (t k : ℕ) (m : MirState) → m.world.raised ≡ None → name_in (m.world.temps (t + 1)) ≡ None → dispatched c n t k m ≡ go_if c (way_for n k) m
+dispatched_is : (c : Code) (n : ℤ) (t k : ℕ) (m : MirState) → m.world.raised ≡ None → m.world.waiting (t + 1) ≡ None → dispatched c n t k m ≡ go_if c (way_for n k) m
 dispatched_is c (pos zero) t k m none nobody = refl
 dispatched_is c (pos (suc zero)) t k m none nobody = refl
 dispatched_is c (pos (suc (suc zero))) t k m none nobody = refl
@@ -206,4 +205,4 @@ module _ (g : Setting) (fit : IsFitting g) (m : MirState) (l : State) (floors : 
       let plain = next.stays.plain in
       let branches = branches_turn (work_of bank) (register_of bank t) l.top.registers x (reads (Dispatch t block) next t next.fine.0) third in
       turned g fit m l floors (Dispatch t block) is next (dispatch_code (work_of bank) (register_of bank t) block) (way_for x block.0) refl refl (afford g fit m l floors (Dispatch t block) is next (λ light. light) 6 (omega arith)) (λ e. behind_act next.on) (λ k e. way_target (here m floors).routine x block.0 k next.fine.1 e) (branches.by_reason block)
-      (step_here g fit m l floors (Dispatch t block) is next ∙ dispatched_is (managed g) x t.0 block.0 (record m { work = rest_above g m l floors (Dispatch t block) is next }) plain.raised (name_in_nameless (m.world.temps (t.0 + 1)) (plain.temps (t.0 + 1))))
+      (step_here g fit m l floors (Dispatch t block) is next ∙ dispatched_is (managed g) x t.0 block.0 (record m { work = rest_above g m l floors (Dispatch t block) is next }) plain.raised (plain.waiting (t.0 + 1)))

@@ -1,5 +1,5 @@
 -- What a call charges: the test of the code is the one that is meant, and where the stack has room for the charge it has room for the routine.
-use Rattle.std.proofs.Common.{◌≡◌, ◌≢◌, ◌≤◌, ◌<◌, ◌⊎◌, inl, inr, ℕ, ◌+◌, ◌-◌, List, [], ◌∷◌, length, Some, refl, sym, ap, ap₂, ◌∙◌, arith}
+use Rattle.std.proofs.Common.{◌≡◌, ◌≢◌, ◌≤◌, ◌<◌, ◌⊎◌, inl, inr, ℕ, ◌+◌, ◌-◌, List, [], ◌∷◌, length, Some, refl, sym, ap, ap₂, ◌∙◌, arith, None}
 use Rattle.std.specs.Prelude.{◌^◌, ◌%◌, min, true, false, nat_eq, nat_lt, slice_get, if◌then◌else◌}
 use Rattle.std.proofs.Math.Nat.{min-eq_left, min-eq_right}
 use Rattle.std.proofs.lemmas.Bool.{cases_lt}
@@ -9,13 +9,16 @@ use Rattle.op_compute.specs.Bank.{error_block_of}
 use Rattle.op_compute.specs.Straight.{Away, Behind, alu_of, outcome, put, takes}
 use Rattle.op_compute.specs.declared.bank.RuntimeError.TheVariants.{StackOverflow}
 use Rattle.op_expand.specs.Calls.{charge_of, charging_code, runtime}
+use Rattle.op_meaning.specs.Shapes.{variables_of}
+use Rattle.op_meaning.specs.Values.{Reached, reached, failing}
+use Rattle.op_mir.proofs.CallLemmas.{no_outs}
 use Rattle.op_places.specs.Frames.{parameters_of}
 use Rattle.op_places.specs.Homes.{parameter}
 use Rattle.op_places.specs.declared.frame.Frame.{Frame}
 use Rattle.op_low.specs.State.{routine_of, space}
 use Rattle.op_low.specs.declared.ids.VirtualRegister.{VirtualRegister}
-use Rattle.op_meaning.specs.Calls.{Handed, begun, caller_of, entered}
-use Rattle.op_meaning.specs.Frames.{fails}
+use Rattle.op_meaning.specs.Calls.{begun, caller_of, emptied_type, entered, goes_in_behind, outs_of}
+use Rattle.op_meaning.specs.Frames.{Handed, a_routine, at_reached, fails}
 use Rattle.op_meaning.specs.Items.{Receiver}
 use Rattle.op_mir.specs.Machine.{Code, MirState, block_at, code_rules, tables}
 use Rattle.op_mir.specs.View.{routine_at}
@@ -121,7 +124,7 @@ module _ (g : Setting) (fit : IsFitting g) (r : ℕ) (x : Routine) (low : r < le
       record { fits = fits; charge = charge; whole = charge_below ∙ whole; test = ap (nat_lt bytes) charge_below ∙ test; space = omega arith }
 
 -- what is meant where the stack has no room
-pub begun_over : (c : Code) (r : ℕ) (receiver : Receiver) (given : List Handed) (m : MirState) → nat_lt c.stack (m.charged + c.charge r) ≡ true → begun (code_rules c) r receiver m.work given m ≡ fails (tables c) 202 m
+pub begun_over : (c : Code) (r : ℕ) (receiver : Receiver) (given : List Handed) (m : MirState) → nat_lt c.stack (m.charged + c.charge r) ≡ true → begun (code_rules c) r receiver given m ≡ fails (tables c) 202 m
 begun_over c r receiver given m over = rw over refl
 
 -- the state in which a routine begins
@@ -131,12 +134,21 @@ begun_above c r receiver given m = record {
   routine = r;
   work = block_at (c.blocks r) 0;
   frames = [];
-  callers = caller_of m receiver m.work ∷ m.callers;
+  callers = caller_of m receiver ∷ m.callers;
   pending = m.pending;
   charged = m.charged + c.charge r;
   counts = tt;
 }
 
 -- what is meant where it has room
-pub begun_under : (c : Code) (r : ℕ) (receiver : Receiver) (given : List Handed) (m : MirState) → nat_lt c.stack (m.charged + c.charge r) ≡ false → begun (code_rules c) r receiver m.work given m ≡ begun_above c r receiver given m
+pub begun_under : (c : Code) (r : ℕ) (receiver : Receiver) (given : List Handed) (m : MirState) → nat_lt c.stack (m.charged + c.charge r) ≡ false → begun (code_rules c) r receiver given m ≡ begun_above c r receiver given m
 begun_under c r receiver given m under = rw under refl
+
+-- what a call does once its paths have been followed, where nothing has to be emptied
+abbrev pub goes_in_with : Code → ℕ → Receiver → Reached (List Handed) → MirState → MirState
+goes_in_with c r receiver given m = at_reached (tables c) given (λ xs. begun (code_rules c) r receiver xs m) m
+
+pub call_is : (c : Code) → ((v : ℕ) → emptied_type c.core (slice_get c.core.variables v) ≡ None) → (r : ℕ) (receiver : Receiver) (given : Reached (List Handed)) (m : MirState)
+    → at_reached (tables c) given (λ xs. goes_in_behind (code_rules c) (a_routine r) receiver xs (outs_of c.core (a_routine r) xs) m) m ≡ goes_in_with c r receiver given m
+call_is c none r receiver (failing error) m = refl
+call_is c none r receiver (reached xs) m = ap (λ qs. goes_in_behind (code_rules c) (a_routine r) receiver xs qs m) (no_outs c.core none (variables_of c.core r).first xs)

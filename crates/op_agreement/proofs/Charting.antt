@@ -69,7 +69,7 @@ floors_stand g fit floors values bound [] [] number address limit room charged f
     }
 floors_stand g fit floors values bound [] (l ∷ ls) number address limit room charged floor is s = absurd s
 floors_stand g fit floors values bound (c ∷ cs) [] number address limit room charged floor is s = absurd s
-floors_stand g fit floors values bound (c ∷ cs) (l ∷ ls) number address limit room charged floor is (inl (below, under, spare, declared, low, charge, at, more, frames, receiver, to, typed, result, nameless, made, position, activation, callers)) =
+floors_stand g fit floors values bound (c ∷ cs) (l ∷ ls) number address limit room charged floor is (inl (below, under, spare, declared, low, charge, at, more, frames, receiver, to, typed, result, waiting, made, position, activation, callers)) =
     one_more g floors (length cs) below limit floor is at activation.floor (floors_stand g fit floors values bound cs ls c.routine (l.activation.registers result_address.0) below spare under activation.floor activation.base callers)
 floors_stand g fit floors values bound (c ∷ cs) (l ∷ ls) number address limit room charged floor is (inr (below, under, spare, status, a, ended, others, are, charge, at, more, closing, activation, callers)) =
     one_more g floors (length cs) below limit floor is at activation.floor (floors_stand g fit floors values bound cs others c.routine (a.registers result_address.0) below spare under activation.floor activation.base callers)

@@ -14,7 +14,6 @@ use Rattle.op_meaning.specs.Values.{Value, number, number_in}
 use Rattle.op_meaning.specs.World.{with_number}
 use Rattle.op_mir.specs.Code.{Instr}
 use Rattle.op_mir.specs.Machine.{MirState}
-use Rattle.op_mir.specs.Plain.{IsNameless}
 use Rattle.op_mir.specs.View.{view_instruction}
 use Rattle.op_mir.specs.declared.ids.TemporaryId.{TemporaryId}
 use Rattle.op_mir.specs.declared.instruction.Instruction.{Instruction}
@@ -38,32 +37,25 @@ module _ (g : Setting) (f : Floor) (fits : FrameFits g.core f.number f.routine f
   pub all_variables_kept : (old new : ℕ → ℕ) → AreAllKept (work_of f.frame.bank) old new → SameVariables f old new
   all_variables_kept old new kept r low = let e = scratch_behind g f fits in kept r (omega arith)
 
-  pub temporaries_kept : (temps : ℕ → Value) (old new : ℕ → ℕ) → AreAllKept (work_of f.frame.bank) old new → Temporaries f temps old → Temporaries f temps new
+  pub temporaries_kept : (temps : ℕ → ℤ) (old new : ℕ → ℕ) → AreAllKept (work_of f.frame.bank) old new → Temporaries f temps old → Temporaries f temps new
   temporaries_kept temps old new kept are t low =
       let e = scratch_behind g f fits in
-      subst (λ x. IsWordOf x (number_in (temps t))) (sym (kept (f.frame.bank.temporaries + t) (omega arith))) (are t low)
+      subst (λ x. IsWordOf x (temps t)) (sym (kept (f.frame.bank.temporaries + t) (omega arith))) (are t low)
 
   -- one temporary has become a number
-  pub temporary_set : (to : TemporaryId) (n : ℤ) (temps : ℕ → Value) (old new : ℕ → ℕ) → Gives (work_of f.frame.bank) (register_of f.frame.bank to) old new n → Temporaries f temps old → Temporaries f (λ u. if nat_eq u to.0 then number n else temps u) new
+  pub temporary_set : (to : TemporaryId) (n : ℤ) (temps : ℕ → ℤ) (old new : ℕ → ℕ) → Gives (work_of f.frame.bank) (register_of f.frame.bank to) old new n → Temporaries f temps old → Temporaries f (λ u. if nat_eq u to.0 then n else temps u) new
   temporary_set to n temps old new gives are t low = by (cases_eq t to.0)
     where
-      by : (t ≡ to.0) ⊎ (t ≡ to.0 → ⊥) → IsWordOf (new (f.frame.bank.temporaries + t)) (number_in (if nat_eq t to.0 then number n else temps t))
+      by : (t ≡ to.0) ⊎ (t ≡ to.0 → ⊥) → IsWordOf (new (f.frame.bank.temporaries + t)) (if nat_eq t to.0 then n else temps t)
       by (inl same) =
           let test : nat_eq t to.0 ≡ true = grind (arith, nat_tests) in
           let there : new (f.frame.bank.temporaries + to.0) ≡ new (f.frame.bank.temporaries + t) = ap (λ u. new (f.frame.bank.temporaries + u)) (sym same) in
-          subst (λ b. IsWordOf (new (f.frame.bank.temporaries + t)) (number_in (if b then number n else temps t))) (sym test) (subst (λ x. IsWordOf x n) there gives.result)
+          subst (λ b. IsWordOf (new (f.frame.bank.temporaries + t)) (if b then n else temps t)) (sym test) (subst (λ x. IsWordOf x n) there gives.result)
       by (inr other) =
           let test : nat_eq t to.0 ≡ false = grind (arith, nat_tests) in
           let e = scratch_behind g f fits in
           let there : new (f.frame.bank.temporaries + t) ≡ old (f.frame.bank.temporaries + t) = gives.others (f.frame.bank.temporaries + t) (omega arith) (λ same. other (omega arith)) in
-          subst (λ b. IsWordOf (new (f.frame.bank.temporaries + t)) (number_in (if b then number n else temps t))) (sym test) (subst (λ x. IsWordOf x (number_in (temps t))) (sym there) (are t low))
-
-pub nameless_set : (to : ℕ) (n : ℤ) (temps : ℕ → Value) → ((t : ℕ) → IsNameless (temps t)) → (t : ℕ) → IsNameless (if nat_eq t to then number n else temps t)
-nameless_set to n temps are t = by (nat_eq t to)
-  where
-    by : (b : Bool) → IsNameless (if b then number n else temps t)
-    by true = tt
-    by false = are t
+          subst (λ b. IsWordOf (new (f.frame.bank.temporaries + t)) (if b then n else temps t)) (sym test) (subst (λ x. IsWordOf x (temps t)) (sym there) (are t low))
 
 -- ---- what stands behind the next instruction
 
@@ -84,10 +76,9 @@ module _ (g : Setting) (m : MirState) (l : State) (floors : ℕ → Floor) (i : 
       let fits = s.activation.floor.fits in
       stands_on g (record m { world = with_number to.0 n m.world; work = rest_above }) (at l h rest_below) next.ending next.frames (record {
         floors = floors;
-        stays = stays_registers g floors m l (λ u. if nat_eq u to.0 then number n else m.world.temps u) rest_above h rest_below
+        stays = stays_registers g floors m l (λ u. if nat_eq u to.0 then n else m.world.temps u) rest_above h rest_below
             (variables_kept g (here m floors) fits to l.top.registers h gives.others)
-            (temporary_set g (here m floors) fits to n m.world.temps l.top.registers h gives s.activation.kept.temporaries)
-            (nameless_set to.0 n m.world.temps s.plain.temps) s;
+            (temporary_set g (here m floors) fits to n m.world.temps l.top.registers h gives s.activation.kept.temporaries) s;
         position = rest_stands fine;
       })
 
@@ -100,6 +91,6 @@ module _ (g : Setting) (m : MirState) (l : State) (floors : ℕ → Floor) (i : 
         floors = floors;
         stays = stays_registers g floors m l m.world.temps rest_above h rest_below
             (all_variables_kept g (here m floors) fits l.top.registers h kept)
-            (temporaries_kept g (here m floors) fits m.world.temps l.top.registers h kept s.activation.kept.temporaries) s.plain.temps s;
+            (temporaries_kept g (here m floors) fits m.world.temps l.top.registers h kept s.activation.kept.temporaries) s;
         position = rest_stands fine;
       })

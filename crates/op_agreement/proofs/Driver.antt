@@ -6,7 +6,7 @@ use Rattle.std.proofs.lemmas.List.Concat.{flat_map-cons}
 use Rattle.op_constants.specs.Literals.{instruction_literals, literals_of}
 use Rattle.op_low.specs.State.{State}
 use Rattle.op_core.specs.declared.ids.RoutineId.{RoutineId}
-use Rattle.op_meaning.specs.Frames.{Frame, walk, destruction, construction, closing}
+use Rattle.op_meaning.specs.Frames.{Frame, walk, destruction, construction, closing, uncharged, calling}
 use Rattle.op_meaning.specs.World.{Ending, Running as GoingOn, Ended as HasEnded}
 use Rattle.op_mir.specs.declared.instruction.Call.{Call as Operands}
 use Rattle.op_mir.specs.Machine.{MirState, mir_step}
@@ -109,6 +109,8 @@ module _ (g : Setting) (fit : IsFitting g) where
   comes_by GoingOn (closing status ∷ frame ∷ frames) m l ending frames_are due s = absurd s
   comes_by GoingOn (walk places lost waits ∷ frames) m l ending frames_are due s = absurd s
   comes_by GoingOn (destruction i started entered places waits ∷ frames) m l ending frames_are due s = absurd s
+  comes_by GoingOn (uncharged frame ∷ frames) m l ending frames_are due s = absurd s
+  comes_by GoingOn (calling callee receiver given outs ∷ frames) m l ending frames_are due s = absurd s
   comes_by GoingOn (construction i ∷ frames) m l ending frames_are due s = absurd s
 
 pub low_code_follows : LowCodeFollows

@@ -13,11 +13,12 @@ use Rattle.op_core.specs.Rows.{rows}
 use Rattle.op_core.specs.declared.ids.TypeId.{TypeId}
 use Rattle.op_core.specs.declared.routine.Variable.{Variable}
 use Rattle.op_expand.specs.Calls.{runtime}
+use Rattle.op_meaning.specs.Frames.{Handed}
 use Rattle.op_places.specs.Homes.{home_at, offset_of, parameter}
 use Rattle.op_places.specs.declared.homes.Home.TheVariants.{Held, Stored}
 use Rattle.op_low.specs.Machine.{entered as entered_low}
 use Rattle.op_low.specs.State.{Caller, State, space}
-use Rattle.op_meaning.specs.Calls.{Handed, no_temps}
+use Rattle.op_meaning.specs.Calls.{no_temps}
 use Rattle.op_meaning.specs.Shapes.{composite, refers, shape_of, type_of_local, type_of_row, type_of_variable, variables_of, zero_of}
 use Rattle.op_meaning.specs.Values.{Value, Holder, global, local, temporary, object, number_in}
 use Rattle.op_meaning.specs.World.{World}
@@ -29,7 +30,7 @@ use Rattle.op_mir.specs.declared.path.Root.TheVariants.{Local, Temporary}
 use Rattle.op_rv.proofs.Memory.{with_bytes-below, with_bytes-within, zeros_get}
 use Rattle.op_agreement.proofs.Charting.{live_stands}
 use Rattle.op_agreement.proofs.Counting.{count_below}
-use Rattle.op_agreement.proofs.Entering.{Enters, above_at, at_deeper, below_begun, bound_below, entered_is, few_given, is_stored, locals_here, locals_of, memory_begun, nameless_back, parameter_is, register_free, registers_begun, row_there, value_below, value_global, value_held, value_temporary, value_unset, values_at, world_after, world_begun, zero_stored, zero_temporary}
+use Rattle.op_agreement.proofs.Entering.{Enters, above_at, at_deeper, below_begun, bound_below, entered_is, few_given, is_stored, locals_here, locals_of, memory_begun, parameter_is, register_free, registers_begun, row_there, value_below, value_global, value_held, value_temporary, value_unset, values_at, world_after, world_begun, zero_stored, zero_temporary}
 use Rattle.op_agreement.proofs.Keeping.{InFree, InOwn, held_variable, reference_is_parameter, temporaries_behind}
 use Rattle.op_agreement.proofs.Parameters.{IsParameter}
 use Rattle.op_agreement.proofs.Updating.{floors_here, limit_here}
@@ -233,19 +234,18 @@ module _ (g : Setting) (fit : IsFitting g) (m : MirState) (l : State) (floors ne
 
   -- ---- all of it
 
-  -- nothing is named
+  -- no exception is under way or waits
   pub plain_after : IsPlainWorld world
   plain_after =
       subst IsPlainWorld (entered_is g.core (tables (managed g)) refl r given m.world ∙ ap (λ d. world_begun g.core r (suc d) given m.world) e.stays.depth)
-      (plain_entered (tables (managed g)) r given m.world e.nameless e.stays.plain)
+      (plain_entered (tables (managed g)) r given m.world e.stays.plain)
 
   -- also before parameters are stored
   pub plain_at : (k : ℕ) → IsPlainWorld (record world { memory = values k })
   plain_at k = record {
     raised = plain_after.raised;
     made = plain_after.made;
-    temps = plain_after.temps;
-    memory = nameless_back g.core floor_here deep k world.memory plain_after.memory;
+    waiting = plain_after.waiting;
   }
 
   -- all but the place where both go on

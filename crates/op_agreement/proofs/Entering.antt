@@ -15,14 +15,12 @@ use Rattle.op_places.specs.declared.homes.Home.{Home}
 use Rattle.op_places.specs.declared.homes.Home.TheVariants.{Held, Stored, Shared}
 use Rattle.op_low.specs.Machine.{entered as entered_low}
 use Rattle.op_low.specs.State.{Caller, State, routine_of, space}
-use Rattle.op_meaning.specs.Calls.{Handed, cleared, entered, given_all, no_temps}
-use Rattle.op_meaning.specs.Frames.{Program}
+use Rattle.op_meaning.specs.Calls.{cleared, entered, given_all, no_temps, none_waiting}
+use Rattle.op_meaning.specs.Frames.{Program, Handed}
 use Rattle.op_meaning.specs.Shapes.{type_of_local, variables_of, zero_of}
 use Rattle.op_meaning.specs.Values.{Value, Holder, global, local, temporary, object, Place}
 use Rattle.op_meaning.specs.World.{World}
-use Rattle.op_mir.proofs.PlainLemmas.{AreNameless, nameless_zero}
 use Rattle.op_mir.specs.Machine.{MirCaller, MirState, block_at}
-use Rattle.op_mir.specs.Plain.{IsNameless}
 use Rattle.op_mir.specs.declared.code.Routine.{Routine}
 use Rattle.op_rv.specs.State.{with_bytes}
 use Rattle.op_agreement.proofs.Keeping.{take_get}
@@ -40,12 +38,13 @@ use Rattle.op_agreement.specs.Typed.{parameter_rows}
 
 -- all is zero of the activation with so many below it
 abbrev pub world_cleared : Core → (r d : ℕ) → World → World
-world_cleared core r d w = record w { temps = no_temps; made = []; depth = d; memory = cleared core r d w.memory }
+world_cleared core r d w = record w { temps = no_temps; waiting = none_waiting; made = []; depth = d; memory = cleared core r d w.memory }
 
 -- and its parameters are given
 abbrev pub world_begun : Core → (r d : ℕ) → List Handed → World → World
 world_begun core r d given w = record w {
   temps = no_temps;
+  waiting = none_waiting;
   made = [];
   depth = d;
   memory = (given_all d 0 given (world_cleared core r d w)).memory;
@@ -69,17 +68,6 @@ values_back core f d k values (local e v) =
 values_back core f d k values (global v) = values (global v)
 values_back core f d k values (temporary e of n) = values (temporary e of n)
 values_back core f d k values (object name) = values (object name)
-
--- zeros name nothing
-pub nameless_back : (core : Core) (f : Floor) (d k : ℕ) (values : Holder → Value) → ((h : Holder) → IsNameless (values h)) → (h : Holder) → IsNameless (values_back core f d k values h)
-nameless_back core f d k values plain (global v) = plain (global v)
-nameless_back core f d k values plain (temporary e of n) = plain (temporary e of n)
-nameless_back core f d k values plain (object name) = plain (object name)
-nameless_back core f d k values plain (local e v) = by ((nat_eq e d && nat_le k v) && is_stored (home_at f.frame.homes (record { 0 = v })))
-  where
-    by : (b : Bool) → IsNameless (if b then zero_of core (type_of_local core f.number v) else values (local e v))
-    by true = nameless_zero core (type_of_local core f.number v)
-    by false = plain (local e v)
 
 -- ---- what is known where a routine has begun: its floor, and its caller's below
 
@@ -108,7 +96,6 @@ pub record Enters (g : Setting) (m : MirState) (l : State) (floors new : ℕ →
   pub stays : Stays g floors m l
   pub exists : r < length g.mir.routines
   pub are : AreHanded g floors (length m.callers) m.world given (parameter_rows g.core r) words
-  pub nameless : AreNameless given
   pub left : first + (managed g).charge r ≡ l.top.registers 0
   pub same : SameFloors floors new (length m.callers)
   pub number : (new (suc (length m.callers))).number ≡ r

@@ -43,7 +43,7 @@ limit_above g floors values bound (c ∷ cs) [] number address limit room charge
 limit_above g floors values bound (c ∷ cs) (l ∷ ls) number address limit room charged (inr (below, under, spare, status, a, ended, others, are, charge, at, more, closing, activation, callers)) =
     let deeper = limit_above g floors values bound cs others c.routine (a.registers result_address.0) below spare under callers in
     omega arith
-limit_above g floors values bound (c ∷ cs) (l ∷ ls) number address limit room charged (inl (below, under, spare, declared, low, charge, at, more, frames, receiver, to, typed, result, nameless, made, position, activation, callers)) =
+limit_above g floors values bound (c ∷ cs) (l ∷ ls) number address limit room charged (inl (below, under, spare, declared, low, charge, at, more, frames, receiver, to, typed, result, waiting, made, position, activation, callers)) =
     let deeper = limit_above g floors values bound cs ls c.routine (l.activation.registers result_address.0) below spare under callers in
     omega arith
 

@@ -28,7 +28,6 @@ use Rattle.op_meaning.specs.Frames.{Pending, closing, finalize}
 use Rattle.op_meaning.specs.Items.{nowhere}
 use Rattle.op_meaning.specs.Values.{Holder, Place, Value, local}
 use Rattle.op_meaning.specs.World.{World, Running as GoingOn}
-use Rattle.op_mir.proofs.PlainLemmas.{no_more}
 use Rattle.op_mir.specs.Machine.{MirCaller, MirState, block_at, charge_between, code_rules, mir_acted, mir_cost, mir_cost_by, mir_effort, mir_step, mir_step_by, mir_stepped, tables}
 use Rattle.op_mir.specs.View.{routine_at}
 use Rattle.op_mir.specs.declared.code.Mir.{Mir}
@@ -153,7 +152,7 @@ module _ (g : Setting) (fit : IsFitting g) (m : MirState) (l : State) (status : 
     abbrev taken : MirState
     taken = record m { pending = due_parts all_parts n }
 
-    step_is : mir_step (managed g) m ≡ begun_part (code_rules (managed g)) f.0 nowhere m.work [] taken
+    step_is : mir_step (managed g) m ≡ begun_part (code_rules (managed g)) f.0 nowhere [] taken
     step_is = closing_step g m status (finalize f ∷ others) ending frames s.stays.plain.raised pending_is
 
     -- ---- the part is due no more
@@ -301,7 +300,7 @@ module _ (g : Setting) (fit : IsFitting g) (m : MirState) (l : State) (status : 
       low_callers = closing_caller ∷ s.ended ∷ s.lower.callers
 
       abbrev above_caller : MirCaller
-      above_caller = caller_of taken nowhere m.work
+      above_caller = caller_of taken nowhere
 
       abbrev floor_new : Floor
       floor_new = record { number = f.0; routine = x; frame = frame_of g.core f.0 x; base = lower.limit }
@@ -346,7 +345,7 @@ module _ (g : Setting) (fit : IsFitting g) (m : MirState) (l : State) (status : 
             frames = frames;
             receiver = refl;
             result = part.result;
-            nameless = s.stays.plain.temps;
+            waiting = s.stays.plain.waiting;
             made = s.stays.plain.made;
             same = refl;
             now = refl;
@@ -398,7 +397,6 @@ module _ (g : Setting) (fit : IsFitting g) (m : MirState) (l : State) (status : 
             stays = stays;
             exists = part.exists;
             are = subst (λ ps. AreHanded g s.floors (length m.callers) m.world [] ps []) (sym no_rows) tt;
-            nameless = no_more;
             left = omega arith;
             same = floors_below s.floors (length m.callers) floor_new;
             number = ap (λ (f : Floor). f.number) there_new;

@@ -4,7 +4,7 @@ use Rattle.std.specs.List.{list_any}
 use Rattle.op_low.proofs.MachineLemmas.{stopped_halts}
 use Rattle.op_low.specs.Machine.{low_machine}
 use Rattle.op_low.specs.State.{State, Ending, Running, Ended, Bad, goes_on}
-use Rattle.op_meaning.specs.Frames.{Frame, walk, destruction, construction, closing}
+use Rattle.op_meaning.specs.Frames.{Frame, walk, destruction, construction, closing, uncharged, calling}
 use Rattle.op_meaning.specs.World.{Running as GoingOn, Ended as HasEnded, Ending as EndingAbove}
 use Rattle.op_mir.specs.Machine.{MirState, looks_on, mir_cost, mir_step, mir_shows}
 use Rattle.op_simulation.proofs.Points.{agreement, always_below}
@@ -56,6 +56,8 @@ module _ (g : Setting) where
   same_by GoingOn (closing status ∷ frame ∷ frames) m l is s = absurd s
   same_by GoingOn (walk places lost waits ∷ frames) m l is s = absurd s
   same_by GoingOn (destruction i started entered places waits ∷ frames) m l is s = absurd s
+  same_by GoingOn (uncharged frame ∷ frames) m l is s = absurd s
+  same_by GoingOn (calling callee receiver given outs ∷ frames) m l is s = absurd s
   same_by GoingOn (construction i ∷ frames) m l is s = absurd s
 
   pub same_states : (m : MirState) (l : State) → Stands g m l → Same m l

@@ -20,24 +20,25 @@ use Rattle.op_core.specs.declared.routine.Variable.{Variable}
 use Rattle.op_core.specs.declared.types.IntegerKind.{IntegerKind}
 use Rattle.op_core.specs.declared.types.IntegerKind.TheVariants.{Signed8, Unsigned8, Signed16, Unsigned16, Signed32}
 use Rattle.op_expand.specs.Calls.{given_code, given_spot, givens_code, givens_in}
+use Rattle.op_meaning.specs.Frames.{Handed, a_place, a_value}
 use Rattle.op_places.specs.Places.{after, at_scratch, place_code, place_of, reached}
 use Rattle.op_places.specs.declared.frame.Frame.{Frame}
 use Rattle.op_places.specs.declared.spot.Spot.{Spot}
 use Rattle.op_low.specs.State.{State, value_in}
 use Rattle.op_low.specs.declared.ids.VirtualRegister.{VirtualRegister}
 use Rattle.op_low.specs.declared.instruction.Instruction.{Instruction as LowInstruction}
-use Rattle.op_meaning.specs.Calls.{Handed, a_place, a_value, all_handed, handed, with_handed}
+use Rattle.op_meaning.specs.Calls.{all_handed, handed}
 use Rattle.op_meaning.specs.Costs.{given_bytes}
 use Rattle.op_meaning.specs.Numbers.{low_bits_of}
 use Rattle.op_meaning.specs.Paths.{place_of as place_meant}
 use Rattle.op_meaning.specs.Shapes.{composite, is_reference, shape_of, single}
-use Rattle.op_meaning.specs.Values.{Place, number}
+use Rattle.op_meaning.specs.Values.{Place, number, Reached as Met, reached as met, failing, and_then}
 use Rattle.op_meaning.specs.World.{number_at, value_at}
 use Rattle.op_mir.specs.Machine.{MirState}
 use Rattle.op_mir.specs.Valid.{copied_fits, given_fits, has_type, path_fits}
 use Rattle.op_mir.specs.View.{view_given, view_path}
 use Rattle.op_mir.specs.declared.ids.TemporaryId.{TemporaryId}
-use Rattle.op_mir.specs.declared.instruction.Given.TheVariants.{ByValue, ByReference, ByPlace, ByCopy}
+use Rattle.op_mir.specs.declared.instruction.Given.TheVariants.{ByValue, ByPlace, ByCopy}
 use Rattle.op_mir.specs.declared.instruction.Given.{Given}
 use Rattle.op_mir.specs.declared.instruction.Instruction.{Instruction}
 use Rattle.op_mir.specs.declared.path.Path.{Path}
@@ -99,9 +100,9 @@ module _ (g : Setting) (fit : IsFitting g) (m : MirState) (l : State) (floors : 
     pub kept : KeptBelow free.0 f h
     pub is : IsHanded g floors (length m.callers) m.world x p (h spot.base.0)
 
-  abbrev pub GivenTo : (most : ℕ) → State → (ℕ → ℕ) → VirtualRegister → Spot → List LowInstruction → Variable → Option Handed → Type 0
-  GivenTo most from f free spot rest p None = Failed g fit m l floors next.stays 0 most from
-  GivenTo most from f free spot rest p (Some x) = IsGiven most from f free spot rest p x
+  abbrev pub GivenTo : (most : ℕ) → State → (ℕ → ℕ) → VirtualRegister → Spot → List LowInstruction → Variable → Met Handed → Type 0
+  GivenTo most from f free spot rest p (failing error) = Failed g fit m l floors next.stays 0 most from error
+  GivenTo most from f free spot rest p (met x) = IsGiven most from f free spot rest p x
 
   -- what an argument costs at most
   abbrev pub given_most : Given → ℕ
@@ -160,7 +161,7 @@ module _ (g : Setting) (fit : IsFitting g) (m : MirState) (l : State) (floors : 
       }
 
   -- a place, or what stands there
-  path_given : (path : Path) (of : TypeId) (p : Variable) (passed : Place → Handed) (free : VirtualRegister) (f : ℕ → ℕ) (rest : List LowInstruction) → ((q : Place) (a : ℕ) → IsAt g floors (length m.callers) q of a → a < 2 ^ 32 → IsHanded g floors (length m.callers) m.world (passed q) p a) → PathTo g.core (here m floors).number (view_path path) of → IsPlaced g.core (here m floors).number (here m floors).frame path.root → HaveIndices (here m floors).routine path.steps → scratch_here ≤ free.0 → Kept f → GivenTo (place_most path) (at l f (place_code g.core (here m floors).frame 0 path.root path.steps free ++ rest)) f free (place_of g.core (here m floors).frame 0 path.root path.steps free) rest p (option_map passed (place_meant m.world (view_path path)))
+  path_given : (path : Path) (of : TypeId) (p : Variable) (passed : Place → Handed) (free : VirtualRegister) (f : ℕ → ℕ) (rest : List LowInstruction) → ((q : Place) (a : ℕ) → IsAt g floors (length m.callers) q of a → a < 2 ^ 32 → IsHanded g floors (length m.callers) m.world (passed q) p a) → PathTo g.core (here m floors).number (view_path path) of → IsPlaced g.core (here m floors).number (here m floors).frame path.root → HaveIndices (here m floors).routine path.steps → scratch_here ≤ free.0 → Kept f → GivenTo (place_most path) (at l f (place_code g.core (here m floors).frame 0 path.root path.steps free ++ rest)) f free (place_of g.core (here m floors).frame 0 path.root path.steps free) rest p (and_then (place_meant m.world (view_path path)) (λ q. met (passed q)))
   path_given path of p passed free f rest holds typed placed indices less kept =
       let begins = begin_fits g m l floors next.stays path.root typed.from free typed.root placed less in
       let (base, more, offset) = spot_fits g fit m l floors next.stays path of 0 free f rest typed placed indices less kept begins.base begins.more in
@@ -172,9 +173,9 @@ module _ (g : Setting) (fit : IsFitting g) (m : MirState) (l : State) (floors : 
       spot : Spot
       spot = place_of g.core (here m floors).frame 0 path.root path.steps free
 
-      by : spot.offset ≡ 0 → (o : Option Place) → PlaceTo g fit m l floors next.stays (fewest_steps code) (place_most path) (at l f (code ++ rest)) f free spot rest of o → GivenTo (place_most path) (at l f (code ++ rest)) f free spot rest p (option_map passed o)
-      by none None fails = record { h = fails.h; goes = goes_fewer g (fewest_steps code) 0 (at l f (code ++ rest)) _ (omega arith) fails.goes }
-      by none (Some q) reached =
+      by : spot.offset ≡ 0 → (o : Met Place) → PlaceTo g fit m l floors next.stays (fewest_steps code) (place_most path) (at l f (code ++ rest)) f free spot rest of o → GivenTo (place_most path) (at l f (code ++ rest)) f free spot rest p (and_then o (λ q. met (passed q)))
+      by none (failing error) fails = record { is = fails.is; h = fails.h; goes = goes_fewer g (fewest_steps code) 0 (at l f (code ++ rest)) _ (omega arith) fails.goes }
+      by none (met q) reached =
           let here_is : reached.h spot.base.0 + spot.offset ≡ reached.h spot.base.0 = omega arith in
           let low = reached.low in
           record {
@@ -205,20 +206,18 @@ module _ (g : Setting) (fit : IsFitting g) (m : MirState) (l : State) (floors : 
       by Signed16 low = fits_scratch scratch_here free
       by Unsigned16 low = fits_scratch scratch_here free
       by Signed32 low = fits_register scratch_here (register_of (here m floors).frame.bank t) free low less
-  given_fits_spot (ByReference t) p free fits typed homes less = absurd typed
   given_fits_spot (ByPlace path) p free fits typed homes less = place_fits g m l floors next.stays path p.of free typed.1 homes less
   given_fits_spot (ByCopy of path) p free fits (value, same, shape, typed) homes less = place_fits g m l floors next.stays path of free typed (copied_placed of path.root path.steps typed shape homes) less
 
   -- at no more than more
-  given_within : (p q : ℕ) (from : State) (f : ℕ → ℕ) (free : VirtualRegister) (spot : Spot) (rest : List LowInstruction) (v : Variable) (o : Option Handed) → p ≤ q → GivenTo p from f free spot rest v o → GivenTo q from f free spot rest v o
-  given_within p q from f free spot rest v None less fails = record { h = fails.h; goes = goes_within g 0 q from _ fails.goes less }
-  given_within p q from f free spot rest v (Some x) less given = record { h = given.h; goes = goes_within g 0 q from _ given.goes less; kept = given.kept; is = given.is }
+  given_within : (p q : ℕ) (from : State) (f : ℕ → ℕ) (free : VirtualRegister) (spot : Spot) (rest : List LowInstruction) (v : Variable) (o : Met Handed) → p ≤ q → GivenTo p from f free spot rest v o → GivenTo q from f free spot rest v o
+  given_within p q from f free spot rest v (failing error) less fails = record { is = fails.is; h = fails.h; goes = goes_within g 0 q from _ fails.goes less }
+  given_within p q from f free spot rest v (met x) less given = record { h = given.h; goes = goes_within g 0 q from _ given.goes less; kept = given.kept; is = given.is }
 
   -- the code of an argument hands it over, or comes to the error
   pub one_given : (x : Given) (p : Variable) (free : VirtualRegister) (f : ℕ → ℕ) (rest : List LowInstruction) → given_fits g.mir (here m floors).routine x ≡ true → IsTypedGiven g.core (here m floors).number (view_given x) p → HasGiven g.core (here m floors).number (here m floors).frame x → scratch_here ≤ free.0 → Kept f → GivenTo (given_most x) (at l f (given_code g.core (here m floors).frame x free ++ rest)) f free (given_spot g.core (here m floors).frame x free) rest p (handed m.world (view_given x))
   unfolding given_fits copied_fits
-  one_given (ByValue kind t) p free f rest fits (value, shape) homes less kept = given_within 3 (given_most (ByValue kind t)) _ f free _ rest p (Some _) (omega arith) (value_given kind t p free f rest (has_of (here m floors).routine t fits) value shape less kept)
-  one_given (ByReference t) p free f rest fits typed homes less kept = absurd typed
+  one_given (ByValue kind t) p free f rest fits (value, shape) homes less kept = given_within 3 (given_most (ByValue kind t)) _ f free _ rest p (met _) (omega arith) (value_given kind t p free f rest (has_of (here m floors).routine t fits) value shape less kept)
   one_given (ByPlace path) p free f rest fits (reference, typed) homes less kept =
       given_within (place_most path) (given_most (ByPlace path)) _ f free _ rest p _ (omega arith)
       (path_given path p.of p (λ q. a_place q) free f rest (λ q a is low. (reference, is, low)) typed homes (indices_in g.mir (here m floors).routine path fits) less kept)
@@ -241,30 +240,31 @@ module _ (g : Setting) (fit : IsFitting g) (m : MirState) (l : State) (floors : 
     pub kept : KeptBelow free.0 f h
     pub are : (k : ℕ → ℕ) → KeptOutside free.0 h k → AreHanded g floors (length m.callers) m.world xs ps (map (value_in k) bases)
 
-  abbrev pub AllGivenTo : (most : ℕ) → State → (ℕ → ℕ) → VirtualRegister → List VirtualRegister → List LowInstruction → List Variable → Option (List Handed) → Type 0
-  AllGivenTo most from f free bases rest ps None = Failed g fit m l floors next.stays 0 most from
-  AllGivenTo most from f free bases rest ps (Some xs) = AreGiven most from f free bases rest ps xs
+  abbrev pub AllGivenTo : (most : ℕ) → State → (ℕ → ℕ) → VirtualRegister → List VirtualRegister → List LowInstruction → List Variable → Met (List Handed) → Type 0
+  AllGivenTo most from f free bases rest ps (failing error) = Failed g fit m l floors next.stays 0 most from error
+  AllGivenTo most from f free bases rest ps (met xs) = AreGiven most from f free bases rest ps xs
 
   -- what arguments cost at most
   abbrev pub all_most : List Given → ℕ
   all_most xs = 3 * length xs + 2 * sum_by (given_bytes g.core) (map view_given xs)
 
-  all_within : (p q : ℕ) (from : State) (f : ℕ → ℕ) (free : VirtualRegister) (bases : List VirtualRegister) (rest : List LowInstruction) (ps : List Variable) (o : Option (List Handed)) → p ≤ q → AllGivenTo p from f free bases rest ps o → AllGivenTo q from f free bases rest ps o
-  all_within p q from f free bases rest ps None less fails = record { h = fails.h; goes = goes_within g 0 q from _ fails.goes less }
-  all_within p q from f free bases rest ps (Some xs) less given = record { h = given.h; goes = goes_within g 0 q from _ given.goes less; kept = given.kept; are = given.are }
+  all_within : (p q : ℕ) (from : State) (f : ℕ → ℕ) (free : VirtualRegister) (bases : List VirtualRegister) (rest : List LowInstruction) (ps : List Variable) (o : Met (List Handed)) → p ≤ q → AllGivenTo p from f free bases rest ps o → AllGivenTo q from f free bases rest ps o
+  all_within p q from f free bases rest ps (failing error) less fails = record { is = fails.is; h = fails.h; goes = goes_within g 0 q from _ fails.goes less }
+  all_within p q from f free bases rest ps (met xs) less given = record { h = given.h; goes = goes_within g 0 q from _ given.goes less; kept = given.kept; are = given.are }
 
   -- one argument, and others behind it
-  given_then : (one many : ℕ) (first : List LowInstruction) (others rest : List LowInstruction) (free : VirtualRegister) (spot : Spot) (bases : List VirtualRegister) (f : ℕ → ℕ) (p : Variable) (ps : List Variable) (o : Option Handed) (os : Option (List Handed)) → scratch_here ≤ free.0 → SpotFits scratch_here free spot → GivenTo one (at l f (first ++ (others ++ rest))) f free spot (others ++ rest) p o → ((h : ℕ → ℕ) → KeptBelow free.0 f h → AllGivenTo many (at l h (others ++ rest)) h spot.free bases rest ps os) → AllGivenTo (one + many) (at l f ((first ++ others) ++ rest)) f free (spot.base ∷ bases) rest (p ∷ ps) (with_handed o os)
-  given_then one many first others rest free spot bases f p ps None os less fits fails behind =
-      record { h = fails.h; goes = goes_within g 0 (one + many) (at l f ((first ++ others) ++ rest)) _ (goes_from g 0 (at l f ((first ++ others) ++ rest)) (at l f (first ++ (others ++ rest))) _ (ap (at l f) (append_assoc first others rest)) fails.goes) (omega arith) }
-  given_then one many first others rest free spot bases f p ps (Some x) None less fits given behind =
+  given_then : (one many : ℕ) (first : List LowInstruction) (others rest : List LowInstruction) (free : VirtualRegister) (spot : Spot) (bases : List VirtualRegister) (f : ℕ → ℕ) (p : Variable) (ps : List Variable) (o : Met Handed) (os : Met (List Handed)) → scratch_here ≤ free.0 → SpotFits scratch_here free spot → GivenTo one (at l f (first ++ (others ++ rest))) f free spot (others ++ rest) p o → ((h : ℕ → ℕ) → KeptBelow free.0 f h → AllGivenTo many (at l h (others ++ rest)) h spot.free bases rest ps os) → AllGivenTo (one + many) (at l f ((first ++ others) ++ rest)) f free (spot.base ∷ bases) rest (p ∷ ps) (and_then o (λ x. and_then os (λ xs. met (x ∷ xs))))
+  given_then one many first others rest free spot bases f p ps (failing error) os less fits fails behind =
+      record { is = fails.is; h = fails.h; goes = goes_within g 0 (one + many) (at l f ((first ++ others) ++ rest)) _ (goes_from g 0 (at l f ((first ++ others) ++ rest)) (at l f (first ++ (others ++ rest))) _ (ap (at l f) (append_assoc first others rest)) fails.goes) (omega arith) }
+  given_then one many first others rest free spot bases f p ps (met x) (failing error) less fits given behind =
       let fails = behind given.h given.kept in
       record {
+        is = fails.is;
         h = fails.h;
         goes = goes_from g 0 (at l f ((first ++ others) ++ rest)) (at l f (first ++ (others ++ rest))) _ (ap (at l f) (append_assoc first others rest))
             (goes_then g 0 0 0 (at l f (first ++ (others ++ rest))) (at l given.h (others ++ rest)) _ (omega arith) given.goes fails.goes);
       }
-  given_then one many first others rest free spot bases f p ps (Some x) (Some xs) less fits given behind =
+  given_then one many first others rest free spot bases f p ps (met x) (met xs) less fits given behind =
       let later = behind given.h given.kept in
       let base = fits.base in
       let more = fits.more in

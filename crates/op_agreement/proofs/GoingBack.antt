@@ -55,7 +55,7 @@ module _ (g : Setting) (fit : IsFitting g) (m : MirState) (l : State) (floors : 
 
   abbrev back : MirState
   back = record {
-    world = record m.world { temps = c.temps; made = c.made; depth = m.world.depth - 1 };
+    world = record m.world { temps = c.temps; waiting = c.waiting; made = c.made; depth = m.world.depth - 1 };
     routine = c.routine;
     work = c.work;
     frames = c.frames;
@@ -75,7 +75,7 @@ module _ (g : Setting) (fit : IsFitting g) (m : MirState) (l : State) (floors : 
       let many = levels in
       record {
         running = refl;
-        plain = record { raised = s.plain.raised; made = waits.made; temps = waits.nameless; memory = s.plain.memory };
+        plain = record { raised = s.plain.raised; made = waits.made; waiting = waits.waiting };
         pending = s.pending;
         due = s.due;
         depth = omega arith;
@@ -95,7 +95,7 @@ module _ (g : Setting) (fit : IsFitting g) (m : MirState) (l : State) (floors : 
   unfolding execute
   back_step =
       let behind : MirState = record m { work = rest_above g m l floors Return is next } in
-      let w = record m.world { temps = c.temps; made = c.made; depth = m.world.depth - 1 } in
+      let w = record m.world { temps = c.temps; waiting = c.waiting; made = c.made; depth = m.world.depth - 1 } in
       let value = result_in (tables (managed g)) m.routine m.world in
       let charged : m.charged - (managed g).charge m.routine ≡ under = omega arith in
       step_here g fit m l floors Return is next ∙ ap (λ xs. returned (tables (managed g)) xs behind) above

@@ -25,7 +25,7 @@ use Rattle.op_meaning.specs.Actions.{at_place, perform}
 use Rattle.op_meaning.specs.Errors.{failed}
 use Rattle.op_meaning.specs.Paths.{place_of as place_meant}
 use Rattle.op_meaning.specs.Shapes.{composite, shape_by, shape_of}
-use Rattle.op_meaning.specs.Values.{Place, local, number_in}
+use Rattle.op_meaning.specs.Values.{Place, local, number_in, Reached as Met, reached as met, failing}
 use Rattle.op_meaning.specs.World.{value_at, with_number}
 use Rattle.op_mir.specs.Machine.{MirState, execute, mir_cost, mir_step}
 use Rattle.op_mir.specs.Valid.{action_fits, has, load_fits, path_fits, root_fits, step_fits}
@@ -86,13 +86,14 @@ module _ (g : Setting) (fit : IsFitting g) (m : MirState) (l : State) (floors : 
       fits.composites v variable (ap (shape_of g.core) type ∙ step_composite g.core typed.from of st ss typed.reaches)
 
   -- an error of an index
-  pub index_fails : (i : Instruction) (next : NextIs i) (least most : ℕ) (from : State) → l ≡ from → Failed g fit m l floors next.stays least most from → most + 5 ≤ most_for_one * mir_cost (managed g) m → mir_step (managed g) m ≡ record m { world = failed g.core 201 m.world; work = rest_above g m l floors i is next } → Comes g m l
-  index_fails i next least most from same fails few step =
+  pub index_fails : (i : Instruction) (next : NextIs i) (least most : ℕ) (from : State) (error : ℕ) → l ≡ from → Failed g fit m l floors next.stays least most from error → most + 5 ≤ most_for_one * mir_cost (managed g) m → mir_step (managed g) m ≡ record m { world = failed g.core error m.world; work = rest_above g m l floors i is next } → Comes g m l
+  index_fails i next least most from error same fails few step =
       let (k, ends, stands) = error_ends g fit floors m l next.stays RangeCheck fails.h (rest_above g m l floors i is next) in
+      let comes = step ∙ ap (λ n. record m { world = failed g.core n m.world; work = rest_above g m l floors i is next }) fails.is in
       record {
         to = k;
         goes = goes_within g 1 (most_for_one * mir_cost (managed g) m) l k (goes_from g 1 l from k same (goes_then g least 5 1 from (at l fails.h (block_of g.low l.top.routine (error_block_of frame.bank RangeCheck).0)) k (omega arith) fails.goes ends)) few;
-        stands = subst (λ x. Stands g x k) (sym step) stands;
+        stands = subst (λ x. Stands g x k) (sym comes) stands;
       }
 
   -- ---- loads
@@ -127,11 +128,11 @@ module _ (g : Setting) (fit : IsFitting g) (m : MirState) (l : State) (floors : 
         let begins : l ≡ at l l.top.registers (pc ++ (lw ∷ rest)) = begins_here g fit m l floors i is next (pc ++ lw ∷ []) code ∙ ap (at l l.top.registers) (append_assoc pc (lw ∷ []) rest) in
         by (place_meant m.world (view_path path)) refl begins (place_goes g fit m l floors next.stays path of near free l.top.registers (lw ∷ rest) typed placed indices (omega arith) (λ r below. refl))
       where
-        by : (o : Option Place) → place_meant m.world (view_path path) ≡ o → l ≡ at l l.top.registers (place_code g.core frame near path.root path.steps (scratch_of frame.bank 0) ++ (LoadWord (load_op kind) (register_of frame.bank to) (place_of g.core frame near path.root path.steps (scratch_of frame.bank 0)).base (pos (place_of g.core frame near path.root path.steps (scratch_of frame.bank 0)).offset) ∷ rest_below g m l floors (Act (Load to kind path) landing) is next)) → PlaceTo g fit m l floors next.stays (fewest_steps (place_code g.core frame near path.root path.steps (scratch_of frame.bank 0))) (place_most path) (at l l.top.registers (place_code g.core frame near path.root path.steps (scratch_of frame.bank 0) ++ (LoadWord (load_op kind) (register_of frame.bank to) (place_of g.core frame near path.root path.steps (scratch_of frame.bank 0)).base (pos (place_of g.core frame near path.root path.steps (scratch_of frame.bank 0)).offset) ∷ rest_below g m l floors (Act (Load to kind path) landing) is next))) l.top.registers (scratch_of frame.bank 0) (place_of g.core frame near path.root path.steps (scratch_of frame.bank 0)) (LoadWord (load_op kind) (register_of frame.bank to) (place_of g.core frame near path.root path.steps (scratch_of frame.bank 0)).base (pos (place_of g.core frame near path.root path.steps (scratch_of frame.bank 0)).offset) ∷ rest_below g m l floors (Act (Load to kind path) landing) is next) next.fine.1.0 o → Comes g m l
-        by None e begins fails =
-            index_fails (Act (Load to kind path) landing) next _ (place_most path) _ begins fails (afford g fit m l floors (Act (Load to kind path) landing) is next (λ light. light) (place_most path + 5) (omega arith))
+        by : (o : Met Place) → place_meant m.world (view_path path) ≡ o → l ≡ at l l.top.registers (place_code g.core frame near path.root path.steps (scratch_of frame.bank 0) ++ (LoadWord (load_op kind) (register_of frame.bank to) (place_of g.core frame near path.root path.steps (scratch_of frame.bank 0)).base (pos (place_of g.core frame near path.root path.steps (scratch_of frame.bank 0)).offset) ∷ rest_below g m l floors (Act (Load to kind path) landing) is next)) → PlaceTo g fit m l floors next.stays (fewest_steps (place_code g.core frame near path.root path.steps (scratch_of frame.bank 0))) (place_most path) (at l l.top.registers (place_code g.core frame near path.root path.steps (scratch_of frame.bank 0) ++ (LoadWord (load_op kind) (register_of frame.bank to) (place_of g.core frame near path.root path.steps (scratch_of frame.bank 0)).base (pos (place_of g.core frame near path.root path.steps (scratch_of frame.bank 0)).offset) ∷ rest_below g m l floors (Act (Load to kind path) landing) is next))) l.top.registers (scratch_of frame.bank 0) (place_of g.core frame near path.root path.steps (scratch_of frame.bank 0)) (LoadWord (load_op kind) (register_of frame.bank to) (place_of g.core frame near path.root path.steps (scratch_of frame.bank 0)).base (pos (place_of g.core frame near path.root path.steps (scratch_of frame.bank 0)).offset) ∷ rest_below g m l floors (Act (Load to kind path) landing) is next) next.fine.1.0 o → Comes g m l
+        by (failing error) e begins fails =
+            index_fails (Act (Load to kind path) landing) next _ (place_most path) _ error begins fails (afford g fit m l floors (Act (Load to kind path) landing) is next (λ light. light) (place_most path + 5) (omega arith))
             (step_here g fit m l floors (Act (Load to kind path) landing) is next ∙ ap (λ o. record m { world = at_place g.core o (λ p. with_number to.0 (number_in (value_at m.world p)) m.world) m.world; work = rest_above g m l floors (Act (Load to kind path) landing) is next }) e)
-        by (Some q) e begins reached =
+        by (met q) e begins reached =
             let typed = next.fine.1.2 in
             let small = small_last g.core typed.from next.fine.1.0 (map view_step path.steps) typed.reaches typed.small in
             let spot = place_of g.core frame near path.root path.steps (scratch_of frame.bank 0) in

@@ -31,7 +31,7 @@ use Rattle.op_low.specs.declared.instruction.Instruction.{Instruction as LowInst
 use Rattle.op_low.specs.declared.instruction.Instruction.TheVariants.{Const}
 use Rattle.op_meaning.specs.Actions.{at_place, perform}
 use Rattle.op_meaning.specs.Paths.{place_of as place_meant}
-use Rattle.op_meaning.specs.Values.{Place, all_of, local}
+use Rattle.op_meaning.specs.Values.{Place, all_of, local, Reached as Met, reached as met, failing}
 use Rattle.op_mir.specs.Machine.{MirState, execute, mir_step, mir_cost}
 use Rattle.op_mir.specs.Valid.{action_fits}
 use Rattle.op_mir.specs.View.{view_path}
@@ -59,17 +59,17 @@ module _ (g : Setting) (fit : IsFitting g) (m : MirState) (l : State) (floors : 
     abbrev rest_low : List LowInstruction
     rest_low = rest_below g m l floors (Act (Look path) landing) is next
 
-    abbrev looked : Option Place → MirState
+    abbrev looked : Met Place → MirState
     looked o = record m { world = at_place g.core o (λ p. m.world) m.world; work = rest_above g m l floors (Act (Look path) landing) is next }
 
-    look_step : (o : Option Place) → place_meant m.world (view_path path) ≡ o → mir_step (managed g) m ≡ looked o
+    look_step : (o : Met Place) → place_meant m.world (view_path path) ≡ o → mir_step (managed g) m ≡ looked o
     unfolding execute perform
     look_step o e = step_here g fit m l floors (Act (Look path) landing) is next ∙ ap looked e
 
-    look_code : (o : Option Place) → place_meant m.world (view_path path) ≡ o → l ≡ at l l.top.registers (code_at path ++ (Const free 0 ∷ rest_low)) → PlaceTo g fit m l floors next.stays (fewest_steps (code_at path)) (place_most path) (at l l.top.registers (code_at path ++ (Const free 0 ∷ rest_low))) l.top.registers free (place_of g.core frame near path.root path.steps free) (Const free 0 ∷ rest_low) next.fine.1.0 o → Comes g m l
+    look_code : (o : Met Place) → place_meant m.world (view_path path) ≡ o → l ≡ at l l.top.registers (code_at path ++ (Const free 0 ∷ rest_low)) → PlaceTo g fit m l floors next.stays (fewest_steps (code_at path)) (place_most path) (at l l.top.registers (code_at path ++ (Const free 0 ∷ rest_low))) l.top.registers free (place_of g.core frame near path.root path.steps free) (Const free 0 ∷ rest_low) next.fine.1.0 o → Comes g m l
     unfolding act put
-    look_code None e begins fails = index_fails g fit m l floors is (Act (Look path) landing) next (fewest_steps (code_at path)) (place_most path) (at l l.top.registers (code_at path ++ (Const free 0 ∷ rest_low))) begins fails (afford g fit m l floors (Act (Look path) landing) is next (λ light. light) (place_most path + 5) (omega arith)) (look_step None e)
-    look_code (Some q) e begins reached =
+    look_code (failing error) e begins fails = index_fails g fit m l floors is (Act (Look path) landing) next (fewest_steps (code_at path)) (place_most path) (at l l.top.registers (code_at path ++ (Const free 0 ∷ rest_low))) error begins fails (afford g fit m l floors (Act (Look path) landing) is next (λ light. light) (place_most path + 5) (omega arith)) (look_step (failing error) e)
+    look_code (met q) e begins reached =
         let h = put reached.h free 0 in
         record {
           to = at l h rest_low;
@@ -77,7 +77,7 @@ module _ (g : Setting) (fit : IsFitting g) (m : MirState) (l : State) (floors : 
               (goes_from g 1 l (at l l.top.registers (code_at path ++ (Const free 0 ∷ rest_low))) (at l h rest_low) begins
               (goes_then g (fewest_steps (code_at path)) 1 1 (at l l.top.registers (code_at path ++ (Const free 0 ∷ rest_low))) (at l reached.h (Const free 0 ∷ rest_low)) (at l h rest_low) (omega arith) reached.goes (goes_one g l reached.h (Const free 0) rest_low refl)))
               (afford g fit m l floors (Act (Look path) landing) is next (λ light. light) (place_most path + 1) (omega arith));
-          stands = subst (λ k. Stands g k (at l h rest_low)) (sym (look_step (Some q) e)) (nothing_stands g m l floors (Act (Look path) landing) is next h (behind_act next.on) (λ r low. put_lower reached.h free 0 r low ∙ reached.kept r low));
+          stands = subst (λ k. Stands g k (at l h rest_low)) (sym (look_step (met q) e)) (nothing_stands g m l floors (Act (Look path) landing) is next h (behind_act next.on) (λ r low. put_lower reached.h free 0 r low ∙ reached.kept r low));
         }
 
     look_placed : IsPlaced g.core (here m floors).number frame path.root → Comes g m l

@@ -56,7 +56,7 @@ module _ (g : Setting) (fit : IsFitting g) (m : MirState) (l : State) (floors : 
       by : (cs : List MirCaller) (ls : List Caller) → m.callers ≡ cs → CallersStand g floors m.world.memory m.world.bound cs ls m.routine (l.top.registers result_address.0) l.limit l.room m.charged → m.callers ≡ []
       by [] ls above s = above
       by (c ∷ cs) [] above s = absurd s
-      by (c ∷ cs) (lc ∷ lcs) above (inl (below, under, spare, declared, low, charge, at_, more, frames, receiver, to, typed, result, nameless, made, position, activation, callers)) = let own = main in absurd (omega arith)
+      by (c ∷ cs) (lc ∷ lcs) above (inl (below, under, spare, declared, low, charge, at_, more, frames, receiver, to, typed, result, waiting, made, position, activation, callers)) = let own = main in absurd (omega arith)
       by (c ∷ cs) (lc ∷ lcs) above (inr (below, under, spare, status, a, ended, others, are, charge, at_, more, waits, activation, callers)) = let own = main in let low = waits.low in absurd (omega arith)
 
   -- it is the first one that is not due yet

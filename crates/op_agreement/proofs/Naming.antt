@@ -22,7 +22,7 @@ use Rattle.op_mir.specs.declared.action.Action.{Action}
 use Rattle.op_mir.specs.declared.code.Block.{Block}
 use Rattle.op_mir.specs.declared.code.Mir.{Mir}
 use Rattle.op_mir.specs.declared.code.Routine.{Routine}
-use Rattle.op_mir.specs.declared.instruction.Given.TheVariants.{ByValue, ByReference, ByPlace, ByCopy}
+use Rattle.op_mir.specs.declared.instruction.Given.TheVariants.{ByValue, ByPlace, ByCopy}
 use Rattle.op_mir.specs.declared.instruction.Given.{Given}
 use Rattle.op_mir.specs.declared.instruction.Instruction.TheVariants.{Act, Call, Jump, When, Unless, Switch, Dispatch, MakeDue, Stop, Return}
 use Rattle.op_mir.specs.declared.instruction.Instruction.{Instruction}
@@ -91,7 +91,6 @@ module _ (core : Core) (r : ℕ) where
   given_may roots (ByPlace path) all may = place_may roots path.root all may
   given_may roots (ByCopy of path) all may = temporary_may roots path.root all may
   given_may roots (ByValue kind t) all may = all
-  given_may roots (ByReference t) all may = all
 
   givens_may : (roots : List Root) (gs : List Given) → AllMay roots → All (MayBeGiven core r) gs → AllMay (fold with_given roots gs)
   givens_may roots [] all may = all
@@ -167,7 +166,6 @@ module _ (core : Core) (r : ℕ) where
   given_typed (ByPlace path) p typed = let (reference, to) = typed in path_typed path p.of to
   given_typed (ByCopy of path) p typed = let (value, same, shape, to) = typed in path_typed path of to
   given_typed (ByValue kind t) p typed = tt
-  given_typed (ByReference t) p typed = tt
 
   givens_typed : (gs : List Given) (ps : List Variable) → AreTypedGiven core r (map view_given gs) ps → All (MayBeGiven core r) gs
   givens_typed [] ps typed = All-nil (MayBeGiven core r)

@@ -4,6 +4,7 @@ use Rattle.std.specs.Prelude.{map, true, false, nat_eq, slice_get, if◌then◌e
 use Rattle.std.proofs.lemmas.Bool.Decides.{nat_tests}
 use Rattle.std.proofs.lemmas.List.Sums.{sum_by-cons}
 use Rattle.std.specs.List.{sum_by}
+use Rattle.op_agreement.proofs.Charging.{call_is, goes_in_with}
 use Rattle.op_constants.specs.Offsets.{size_in}
 use Rattle.op_constants.specs.Shapes.{is_composite}
 use Rattle.op_core.proofs.Rows.{there_is}
@@ -11,10 +12,9 @@ use Rattle.op_expand.specs.Calls.{runtime}
 use Rattle.op_places.specs.Frames.{frame_of}
 use Rattle.op_expand.specs.Routines.{most_charge}
 use Rattle.op_low.specs.State.{Caller, State, routine_of, space}
-use Rattle.op_meaning.specs.Calls.{called_with, caller_of, entered}
+use Rattle.op_meaning.specs.Calls.{caller_of, entered, all_handed}
 use Rattle.op_meaning.specs.Values.{Value, Holder, Place, local}
 use Rattle.op_meaning.specs.World.{World}
-use Rattle.op_mir.proofs.PlainLemmas.{IfNameless, nameless_all}
 use Rattle.op_mir.specs.Machine.{MirCaller, MirState, block_at, execute, mir_step, tables, charge_between, mir_cost, mir_effort, code_rules}
 use Rattle.op_mir.specs.View.{routine_at, view_given, view_receiver}
 use Rattle.op_mir.specs.declared.code.Routine.{Routine}
@@ -26,7 +26,7 @@ use Rattle.op_meaning.specs.Frames.{fails}
 use Rattle.op_meaning.specs.Shapes.{shape_of}
 use Rattle.op_mir.specs.declared.instruction.Call.{Call as Operands}
 use Rattle.op_mir.specs.declared.instruction.Given.{Given}
-use Rattle.op_mir.specs.declared.instruction.Given.TheVariants.{ByValue, ByReference, ByPlace, ByCopy}
+use Rattle.op_mir.specs.declared.instruction.Given.TheVariants.{ByValue, ByPlace, ByCopy}
 use Rattle.op_mir.specs.declared.instruction.Instruction.TheVariants.{Call}
 use Rattle.op_mir.specs.declared.instruction.Instruction.{Instruction}
 use Rattle.op_agreement.proofs.Branching.{step_here}
@@ -51,7 +51,6 @@ use Rattle.op_agreement.specs.Typed.{AreTypedGiven, IsTypedGiven, parameter_rows
 
 row_costs : (core : Core) (r : ℕ) (x : Given) (p : Variable) → IsTypedGiven core r (view_given x) p → copied_bytes core p ≤ given_bytes core (view_given x)
 row_costs core r (ByValue kind t) p (value, shape) = let none : copied_bytes core p ≡ 0 = ap₂ (λ a b. if a then 0 else if is_composite b then size_in core p.of else 0) value shape in omega arith
-row_costs core r (ByReference t) p typed = absurd typed
 row_costs core r (ByPlace path) p (reference, typed) = let none : copied_bytes core p ≡ 0 = ap (λ a. if a then 0 else if is_composite (shape_of core p.of) then size_in core p.of else 0) reference in omega arith
 row_costs core r (ByCopy of path) p (value, same, shape, typed) =
     let all : copied_bytes core p ≡ size_in core of = ap₂ (λ a b. if a then 0 else if is_composite b then size_in core p.of else 0) value (ap (shape_of core) same ∙ shape) ∙ ap (size_in core) same in
@@ -85,7 +84,7 @@ floors_below floors depth f d low = let t : nat_eq d (suc depth) ≡ false = gri
 module _ (g : Setting) (fit : IsFitting g) (m : MirState) (l : State) (floors : ℕ → Floor) (callee : RoutineId) (call : Operands) (is : List Instruction) (next : Next g m l floors (Call callee call) is) (b : Begins g m l floors callee.0 call (rest_below g m l floors (Call callee call) is next)) where
   -- the caller above, and the one below
   abbrev pub caller_above : MirCaller
-  caller_above = caller_of m (view_receiver call.receiver) (rest_above g m l floors (Call callee call) is next)
+  caller_above = caller_of (record m { work = rest_above g m l floors (Call callee call) is next }) (view_receiver call.receiver)
 
   abbrev pub caller_below : Caller
   caller_below = record { activation = record l.top { registers = b.registers; now = rest_below g m l floors (Call callee call) is next }; to = b.to; landing = None }
@@ -125,7 +124,8 @@ module _ (g : Setting) (fit : IsFitting g) (m : MirState) (l : State) (floors : 
   begun_step =
       let behind = record m { work = rest_above g m l floors (Call callee call) is next } in
       step_here g fit m l floors (Call callee call) is next
-      ∙ ap (λ o. called_with (code_rules (managed g)) callee.0 (view_receiver call.receiver) behind.work o behind) b.handed
+      ∙ call_is (managed g) fit.program.outs callee.0 (view_receiver call.receiver) (all_handed m.world (map view_given call.given)) behind
+      ∙ ap (λ o. goes_in_with (managed g) callee.0 (view_receiver call.receiver) o behind) b.handed
       ∙ ap (λ t. if t then fails (tables (managed g)) 202 behind else begun_in (entered (tables (managed g)) callee.0 b.given m.world)) b.charged
       ∙ ap begun_in (entered_is g.core (tables (managed g)) refl callee.0 b.given m.world ∙ ap (λ d. world_begun g.core callee.0 (suc d) b.given m.world) next.stays.depth)
 
@@ -186,7 +186,6 @@ module _ (g : Setting) (fit : IsFitting g) (m : MirState) (l : State) (floors : 
           stays = s;
           exists = next.fine.0;
           are = b.are;
-          nameless = subst IfNameless b.handed (nameless_all m.world s.plain (map view_given call.given));
           left = omega arith;
           same = same;
           number = ap (λ f. f.number) there_new;

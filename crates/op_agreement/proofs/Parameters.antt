@@ -4,7 +4,8 @@ use Rattle.std.specs.Prelude.{◌^◌, true, false, ◌&&◌, nat_eq, slice_get,
 use Rattle.std.proofs.Math.Bool.{and-false}
 use Rattle.std.proofs.lemmas.Bool.Decides.{nat_tests}
 use Rattle.op_core.specs.declared.routine.Variable.{Variable}
-use Rattle.op_meaning.specs.Calls.{Handed, a_value, a_place, given_all, given_one}
+use Rattle.op_meaning.specs.Calls.{given_all, given_one}
+use Rattle.op_meaning.specs.Frames.{Handed, a_value, a_place}
 use Rattle.op_meaning.specs.Shapes.{is_reference}
 use Rattle.op_meaning.specs.Values.{Holder, local, same_holder}
 use Rattle.op_meaning.specs.World.{World}

@@ -52,7 +52,7 @@ use Rattle.op_meaning.specs.Values.{Holder, Place, Value, all_of, local, same_ho
 use Rattle.op_meaning.specs.World.{with_value}
 use Rattle.op_mir.specs.Code.{ret}
 use Rattle.op_mir.specs.Machine.{MirCaller, MirState, mir_step, mir_cost, instr_bytes}
-use Rattle.op_mir.specs.Plain.{IsNameless, IsPlainWorld}
+use Rattle.op_mir.specs.Plain.{IsPlainWorld}
 use Rattle.op_mir.specs.declared.ids.LocalId.{LocalId}
 use Rattle.op_mir.specs.declared.instruction.Instruction.{Instruction}
 use Rattle.op_mir.specs.declared.instruction.Instruction.TheVariants.{Return}
@@ -122,11 +122,7 @@ module _ (g : Setting) (fit : IsFitting g) (m : MirState) (l : State) (floors : 
   put_plain : IsPlainWorld put_above.world
   put_plain =
       let plain = next.stays.plain in
-      record { raised = plain.raised; made = plain.made; temps = plain.temps; memory = λ h. either (same_holder h (temporary (length cs) type n)) h }
-    where
-      either : (b : Bool) (h : Holder) → IsNameless (if b then value else m.world.memory h)
-      either true h = next.stays.plain.memory (local (length m.callers) (result_of_routine g.core (here m floors).number))
-      either false h = next.stays.plain.memory h
+      record { raised = plain.raised; made = plain.made; waiting = plain.waiting }
 
   -- the activation has been charged, since it has a caller
   result_paid : 200 + 6 * size_in g.core of + 1 ≤ most_for_one * mir_cost (managed g) m
@@ -156,7 +152,7 @@ module _ (g : Setting) (fit : IsFitting g) (m : MirState) (l : State) (floors : 
       let step : mir_step (managed g) m ≡ gone_above g fit put_above (put_below memory) floors s c cs lc lcs above lows w c.temps =
       return_step g fit m l floors is next c cs lc lcs above lows of some has
       ∙ ap (λ r. returned g fit m l floors is next c cs lc lcs above lows of some has r value) receives
-      ∙ ap₂ (λ (d u : ℕ). let x : MirState = record { world = with_value (all_of (temporary d type n)) value (record m.world { temps = c.temps; made = c.made; depth = m.world.depth - 1 }); routine = c.routine; work = c.work; frames = c.frames; callers = cs; pending = m.pending; charged = u; counts = tt } in x) depth under in
+      ∙ ap₂ (λ (d u : ℕ). let x : MirState = record { world = with_value (all_of (temporary d type n)) value (record m.world { temps = c.temps; waiting = c.waiting; made = c.made; depth = m.world.depth - 1 }); routine = c.routine; work = c.work; frames = c.frames; callers = cs; pending = m.pending; charged = u; counts = tt } in x) depth under in
       record {
         to = k;
         goes = goes_within g 1 (most_for_one * mir_cost (managed g) m) l k (goes_then g 0 1 1 l (having l f (LowReturn left ∷ rest) memory) k (omega arith) goes (low_returns g fit put_above (put_below memory) floors s c cs lc lcs above lows w f memory left rest)) result_paid;

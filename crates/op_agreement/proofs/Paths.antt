@@ -27,7 +27,7 @@ use Rattle.op_low.specs.declared.instruction.Instruction.TheVariants.{Address, C
 use Rattle.op_low.specs.declared.instruction.Instruction.{Instruction}
 use Rattle.op_meaning.specs.Costs.{indices}
 use Rattle.op_meaning.specs.Paths.{place_of as place_meant, place_of_root}
-use Rattle.op_meaning.specs.Values.{Place, Holder, all_of, local, temporary}
+use Rattle.op_meaning.specs.Values.{Place, Holder, all_of, local, temporary, Reached as Met, failing, reached as met}
 use Rattle.op_mir.specs.Machine.{MirState}
 use Rattle.op_mir.specs.View.{view_path, view_root, view_step}
 use Rattle.op_mir.specs.declared.path.Path.{Path}
@@ -211,13 +211,14 @@ module _ (g : Setting) (fit : IsFitting g) (m : MirState) (l : State) (floors : 
     pub is : At q of (h spot.base.0 + spot.offset)
     pub low : h spot.base.0 + spot.offset + size_in g.core of < 2 ^ 32
 
-  pub record Failed (least most : ℕ) (from : State) : Type 0 where
+  pub record Failed (least most : ℕ) (from : State) (error : ℕ) : Type 0 where
+    pub is : error ≡ 201
     pub h : ℕ → ℕ
     pub goes : Goes g least most from (at l h (block_of g.low l.top.routine (error_block_of (here m floors).frame.bank RangeCheck).0))
 
-  abbrev pub PlaceTo : (least most : ℕ) → State → (ℕ → ℕ) → VirtualRegister → Spot → List Instruction → TypeId → Option Place → Type 0
-  PlaceTo least most from f free spot rest of None = Failed least most from
-  PlaceTo least most from f free spot rest of (Some q) = Reached least most from f free spot rest q of
+  abbrev pub PlaceTo : (least most : ℕ) → State → (ℕ → ℕ) → VirtualRegister → Spot → List Instruction → TypeId → Met Place → Type 0
+  PlaceTo least most from f free spot rest of (failing error) = Failed least most from error
+  PlaceTo least most from f free spot rest of (met q) = Reached least most from f free spot rest q of
 
   module _ (path : Path) (of : TypeId) (limit : ℕ) (free : VirtualRegister) (f : ℕ → ℕ) (rest : List Instruction) (typed : PathTo g.core (here m floors).number (view_path path) of) (placed : IsPlaced g.core (here m floors).number (here m floors).frame path.root) (indices : HaveIndices (here m floors).routine path.steps) (scratch : (here m floors).frame.bank.scratch ≤ free.0) (kept : Kept g fit m l floors s f) where
     abbrev spot_here : Spot
@@ -283,6 +284,7 @@ module _ (g : Setting) (fit : IsFitting g) (m : MirState) (l : State) (floors : 
           low = omega arith;
         })))
         (λ e h goes. subst (λ o. PlaceTo least (place_most path) (at l f (place_code g.core frame_here limit path.root path.steps free ++ rest)) f free spot_here rest of o) (sym e) (record {
+          is = refl;
           h = h;
           goes = goes_within g least (place_most path) (at l f (place_code g.core frame_here limit path.root path.steps free ++ rest)) (at l h (block_of g.low l.top.routine (error_block_of (here m floors).frame.bank RangeCheck).0))
               (goes_then g first (fewest_steps tail) least (at l f (place_code g.core frame_here limit path.root path.steps free ++ rest)) (at l home.h (tail ++ rest)) (at l h (block_of g.low l.top.routine (error_block_of (here m floors).frame.bank RangeCheck).0)) many before goes) few;

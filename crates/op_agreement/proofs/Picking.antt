@@ -203,7 +203,7 @@ module _ (g : Setting) (fit : IsFitting g) (m : MirState) (l : State) (floors : 
       by : (t b : Bool) → t ≡ not b → between (pos 1) (pos (length text)) n ≡ b → GoesTo g 1 3 l (at l l.top.registers (front ++ tail)) tail (if t then Away (error_block_of bank RangeCheck) tested else Behind tested) → mir_step (managed g) m ≡ picked_by b → Comes g m l
       by true true e inside goes step = absurd cc
       by false false e inside goes step = absurd cc
-      by true false e inside goes step = index_fails g fit m l floors is pick next 1 3 (at l l.top.registers (front ++ tail)) begins (record { h = tested; goes = goes }) (afford g fit m l floors pick is next (λ light. light) 8 (omega arith)) step
+      by true false e inside goes step = index_fails g fit m l floors is pick next 1 3 (at l l.top.registers (front ++ tail)) 201 begins (record { is = refl; h = tested; goes = goes }) (afford g fit m l floors pick is next (λ light. light) 8 (omega arith)) step
       by false true e inside goes step =
           let (low_to, low_index) = two_of (here m floors).routine to index next.fine.0 in
           let word = next.stays.activation.kept.temporaries index.0 low_index in

@@ -29,7 +29,7 @@ use Rattle.op_low.specs.State.{State}
 use Rattle.op_low.specs.declared.instruction.Instruction.{Instruction}
 use Rattle.op_meaning.specs.Paths.{Step as MeantStep, field, element, place_from}
 use Rattle.op_meaning.specs.Shapes.{part_type}
-use Rattle.op_meaning.specs.Values.{Place, part_at}
+use Rattle.op_meaning.specs.Values.{Place, part_at, failing, reached as met}
 use Rattle.op_meaning.specs.World.{number_at}
 use Rattle.op_mir.specs.Machine.{MirState}
 use Rattle.op_mir.specs.Valid.{has, step_fits}
@@ -137,7 +137,7 @@ module _ (g : Setting) (fit : IsFitting g) (m : MirState) (l : State) (floors : 
 
   -- ---- steps
 
-  step_within : (st : MeantStep) (from part : TypeId) (p q : Place) → IsSmall g.core from → IsSmall g.core part → Reaches g.core from (st ∷ []) part → place_from m.world p (st ∷ []) ≡ Some q → distance g.core m.world (st ∷ []) + size_in g.core part ≤ size_in g.core from
+  step_within : (st : MeantStep) (from part : TypeId) (p q : Place) → IsSmall g.core from → IsSmall g.core part → Reaches g.core from (st ∷ []) part → place_from m.world p (st ∷ []) ≡ met q → distance g.core m.world (st ∷ []) + size_in g.core part ≤ size_in g.core from
   step_within st from part p q small few reaches e =
       let (ks, at_, leads) = steps_lead g.core fit.program.extents fit.program.first_type m.world from part (st ∷ []) p q small.there reaches e in
       let whole = type_is_arranged g.core fit.program.extents from small in
@@ -147,7 +147,7 @@ module _ (g : Setting) (fit : IsFitting g) (m : MirState) (l : State) (floors : 
       let b_size = inner.size in
       omega arith
 
-  pub steps_then : (ss : List Step) (spot : Spot) (f : ℕ → ℕ) (p : Place) (from to : TypeId) (value : ℕ) (rest : List Instruction) (Holds : Outcome → Type 0) → HaveIndices (here m floors).routine ss → HaveWords (map view_step ss) → Reaches g.core from (map view_step ss) to → AreSmall g.core from (map view_step ss) → (here m floors).frame.bank.scratch ≤ spot.free.0 → spot.base.0 < spot.free.0 → Kept f → f spot.base.0 + spot.offset ≡ value → value + size_in g.core from < 2 ^ 32 → ((q : Place) → place_from m.world p (map view_step ss) ≡ Some q → (h : ℕ → ℕ) → KeptBelow spot.free.0 f h → h (steps_spot g.core ss spot).base.0 + (steps_spot g.core ss spot).offset ≡ value + distance g.core m.world (map view_step ss) → Holds (outcome rest h)) → (place_from m.world p (map view_step ss) ≡ None → (h : ℕ → ℕ) → Holds (Away (error_block_of (here m floors).frame.bank RangeCheck) h)) → Holds (outcome (steps_code g.core frame_here ss spot ++ rest) f)
+  pub steps_then : (ss : List Step) (spot : Spot) (f : ℕ → ℕ) (p : Place) (from to : TypeId) (value : ℕ) (rest : List Instruction) (Holds : Outcome → Type 0) → HaveIndices (here m floors).routine ss → HaveWords (map view_step ss) → Reaches g.core from (map view_step ss) to → AreSmall g.core from (map view_step ss) → (here m floors).frame.bank.scratch ≤ spot.free.0 → spot.base.0 < spot.free.0 → Kept f → f spot.base.0 + spot.offset ≡ value → value + size_in g.core from < 2 ^ 32 → ((q : Place) → place_from m.world p (map view_step ss) ≡ met q → (h : ℕ → ℕ) → KeptBelow spot.free.0 f h → h (steps_spot g.core ss spot).base.0 + (steps_spot g.core ss spot).offset ≡ value + distance g.core m.world (map view_step ss) → Holds (outcome rest h)) → (place_from m.world p (map view_step ss) ≡ failing 201 → (h : ℕ → ℕ) → Holds (Away (error_block_of (here m floors).frame.bank RangeCheck) h)) → Holds (outcome (steps_code g.core frame_here ss spot ++ rest) f)
   steps_then [] spot f p from to value rest Holds indices words reaches small scratch base kept is room inside outside =
       inside p refl f (λ r below. refl) (omega arith)
   steps_then (Field of n ∷ ss) spot f p from to value rest Holds indices words (same, run, found, few, reaches) small scratch base kept is room inside outside =
@@ -172,13 +172,13 @@ module _ (g : Setting) (fit : IsFitting g) (m : MirState) (l : State) (floors : 
       subst (λ code. Holds (outcome code f)) (sym (append_assoc (step_code g.core frame_here (Element of low high t) spot) (steps_code g.core frame_here ss spot1) rest))
       (element_then frame_here (register_of bank t) low high x spot f word fits_low fits_high order (omega arith) base (element_size g.core of) (steps_code g.core frame_here ss spot1 ++ rest) Holds
       (λ test h after value_is.
-      let found_place : place_from m.world p (element of low high t.0 ∷ []) ≡ Some (part_at n p) = ap (λ b. if b then Some (part_at n p) else None) test in
+      let found_place : place_from m.world p (element of low high t.0 ∷ []) ≡ met (part_at n p) = ap (λ b. if b then met (part_at n p) else failing 201) test in
       let within = step_within (element of low high t.0) from each p (part_at n p) small.0 (small_first g.core each (map view_step ss) smaller) (same, index, each, found, range, refl) found_place in
       let (sum, less) = address (f spot.base.0) spot.offset value (n * element_size g.core of) (size_in g.core each) (size_in g.core from) (h spot.free.0) value_is is room (omega arith) in
       steps_then ss spot1 h (part_at n p) each to (value + n * element_size g.core of) rest Holds indices words reaches smaller (omega arith) (omega arith) (λ r below. after r (omega arith) ∙ kept r below) sum less
-      (λ q e k later place_is. inside q (ap (λ b. if b then place_from m.world (part_at n p) (map view_step ss) else None) test ∙ e) k (λ r below. later r (omega arith) ∙ after r below) (place_is ∙ further value (n * element_size g.core of) (distance g.core m.world (map view_step ss))))
-      (λ e. outside (ap (λ b. if b then place_from m.world (part_at n p) (map view_step ss) else None) test ∙ e)))
-      (λ test h. outside (ap (λ b. if b then place_from m.world (part_at n p) (map view_step ss) else None) test) h))
+      (λ q e k later place_is. inside q (ap (λ b. if b then place_from m.world (part_at n p) (map view_step ss) else failing 201) test ∙ e) k (λ r below. later r (omega arith) ∙ after r below) (place_is ∙ further value (n * element_size g.core of) (distance g.core m.world (map view_step ss))))
+      (λ e. outside (ap (λ b. if b then place_from m.world (part_at n p) (map view_step ss) else failing 201) test ∙ e)))
+      (λ test h. outside (ap (λ b. if b then place_from m.world (part_at n p) (map view_step ss) else failing 201) test) h))
     where
       further : (a b c : ℕ) → a + b + c ≡ a + (b + c)
       further a b c = omega arith

@@ -12,12 +12,12 @@ use Rattle.op_constants.specs.Lies.{Lies, arrangement_of, bytes_in}
 use Rattle.op_constants.specs.Offsets.{size_in}
 use Rattle.op_core.specs.declared.routine.Variable.{Variable}
 use Rattle.op_expand.specs.Calls.{result_address}
+use Rattle.op_meaning.specs.Frames.{Handed}
 use Rattle.op_places.specs.Frames.{parameters_of}
 use Rattle.op_places.specs.Homes.{home_at, parameter, rounded}
 use Rattle.op_places.specs.declared.homes.Home.TheVariants.{Held, Stored}
 use Rattle.op_low.specs.State.{Caller, State}
 use Rattle.op_low.specs.declared.instruction.Instruction.{Instruction as LowInstruction}
-use Rattle.op_meaning.specs.Calls.{Handed}
 use Rattle.op_meaning.specs.Shapes.{is_reference, refers, type_of_local, type_of_row, variables_of, zero_of}
 use Rattle.op_meaning.specs.Values.{Value, Holder, global, local, temporary, object, number_in, same_holder}
 use Rattle.op_meaning.specs.World.{World}
@@ -226,7 +226,7 @@ module _ (g : Setting) (fit : IsFitting g) (m : MirState) (l : State) (floors ne
                     (subst (λ x. IsWordOf (lk.top.registers q) (number_in x)) (sym same) (a.kept.variables v q variable home));
                 references = λ v variable. subst (IsAt g new deep (world.bound deep v) (type_of_local g.core floor_here.number v)) (sym (reference_kept v variable)) (a.kept.references v variable);
                 words = λ v variable. subst (λ x. x < 2 ^ 32) (sym (reference_kept v variable)) (a.kept.words v variable);
-                temporaries = λ t low. subst (λ x. IsWordOf x (number_in (world.temps t))) (sym (kept_on (floor_here.frame.bank.temporaries + t) (omega arith) (λ same. omega arith))) (a.kept.temporaries t low);
+                temporaries = λ t low. subst (λ x. IsWordOf x (world.temps t)) (sym (kept_on (floor_here.frame.bank.temporaries + t) (omega arith) (λ same. omega arith))) (a.kept.temporaries t low);
               };
               left = ap (λ x. x + (above k).charged) zeroth ∙ a.left;
               base = a.base;

@@ -73,7 +73,7 @@ module _ (g : Setting) (fit : IsFitting g) (m : MirState) (l : State) (floors : 
           absurd (other (next.paid.itself (omega arith)))
       by [] (lc ∷ lcs) above s = absurd s
       by (c ∷ cs) [] above s = absurd s
-      by (c ∷ cs) (lc ∷ lcs) above (inl (below, under, spare, declared, low, charge, at_, more, frames, receiver, to, typed, result, nameless, made, position, activation, callers)) = paid_by c cs above low
+      by (c ∷ cs) (lc ∷ lcs) above (inl (below, under, spare, declared, low, charge, at_, more, frames, receiver, to, typed, result, waiting, made, position, activation, callers)) = paid_by c cs above low
       by (c ∷ cs) (lc ∷ lcs) above (inr (below, under, spare, status, a, ended, others, are, charge, at_, more, closing, activation, callers)) = paid_by c cs above closing.low
 
   -- so it may cost so much

@@ -1,6 +1,6 @@
 -- Primitives: their operands are put into registers, and a run-time routine does what is meant.
 use Rattle.std.proofs.Common.{◌≡◌, ◌≤◌, ◌<◌, ℕ, zero, suc, ◌+◌, List, [], ◌∷◌, ◌++◌, length, Option, Some, None, refl, sym, ap, ap₂, ◌∙◌, subst, arith, ◌*◌, length-append, map, true, append_assoc, Bool}
-use Rattle.std.specs.Prelude.{◌^◌, false, codes, nat_eq, replicate, slice_get, if◌then◌else◌}
+use Rattle.std.specs.Prelude.{◌^◌, false, codes, nat_eq, replicate, slice_get, if◌then◌else◌, ℤ}
 use Rattle.std.specs.List.{list_all, list_any}
 use Rattle.std.proofs.lemmas.Bool.{and_parts}
 use Rattle.std.proofs.lemmas.Bool.Decides.{nat_tests}
@@ -8,7 +8,7 @@ use Rattle.std.proofs.lemmas.List.{length-map}
 use Rattle.op_agreement.proofs.Branching.{begins_here, has_of, step_here}
 use Rattle.op_agreement.proofs.Cases.{behind_act}
 use Rattle.op_agreement.proofs.Charting.{live_stands}
-use Rattle.op_agreement.proofs.Computing.{nameless_set, rest_above, rest_below, rest_stands, temporary_set, variables_kept}
+use Rattle.op_agreement.proofs.Computing.{rest_above, rest_below, rest_stands, temporary_set, variables_kept}
 use Rattle.op_agreement.proofs.Counting.{count_below}
 use Rattle.op_agreement.proofs.Elements.{KeptBelow}
 use Rattle.op_agreement.proofs.ErrorsEnd.{error_line, error_stands, limit_above, literal_there}
@@ -56,7 +56,6 @@ use Rattle.op_meaning.specs.declared.primitive.Primitive.{Primitive}
 use Rattle.op_meaning.specs.declared.primitive.Sort.{Sort}
 use Rattle.op_mir.specs.Code.{Instr}
 use Rattle.op_mir.specs.Machine.{MirState, execute, mir_step, mir_cost, mir_effort}
-use Rattle.op_mir.specs.Plain.{IsNameless}
 use Rattle.op_mir.specs.Valid.{action_fits, destination_fits, operand_fits}
 use Rattle.op_mir.specs.View.{view_destination, view_operand}
 use Rattle.op_mir.specs.declared.action.Action.TheVariants.{Do}
@@ -80,7 +79,7 @@ pieces_unread [] = refl
 pieces_unread (bytes ∷ pieces) = pieces_unread pieces
 
 -- what is behind a call: output, and temporaries
-abbrev called_world : List ℕ → (ℕ → Value) → World → World
+abbrev called_world : List ℕ → (ℕ → ℤ) → World → World
 called_world text temps w = record w { temps = temps; output = w.output ++ text }
 
 module _ (g : Setting) (fit : IsFitting g) (m : MirState) (l : State) (floors : ℕ → Floor) (s : Stays g floors m l) where
@@ -123,8 +122,8 @@ module _ (g : Setting) (fit : IsFitting g) (m : MirState) (l : State) (floors : 
 
   -- ---- what is kept where memory behind the limit, and the output, have changed
 
-  pub stays_called : (text : List ℕ) (temps : ℕ → Value) (rest : List Instr) (h : ℕ → ℕ) (now : List LowInstruction) (memory : ℕ → ℕ) → ((x : ℕ) → x < l.limit → memory x ≡ l.memory x) → ((t : ℕ) → IsNameless (temps t)) → SameVariables (here m floors) l.top.registers h → Temporaries (here m floors) temps h → Stays g floors (record m { world = called_world text temps m.world; work = rest }) (record (at l h now) { memory = memory; output = l.output ++ text })
-  stays_called text temps rest h now memory kept_memory nameless same are =
+  pub stays_called : (text : List ℕ) (temps : ℕ → ℤ) (rest : List Instr) (h : ℕ → ℕ) (now : List LowInstruction) (memory : ℕ → ℕ) → ((x : ℕ) → x < l.limit → memory x ≡ l.memory x) → SameVariables (here m floors) l.top.registers h → Temporaries (here m floors) temps h → Stays g floors (record m { world = called_world text temps m.world; work = rest }) (record (at l h now) { memory = memory; output = l.output ++ text })
+  stays_called text temps rest h now memory kept_memory same are =
       let a = s.activation in
       let fits = a.floor.fits in
       let behind = fits.behind in
@@ -132,7 +131,7 @@ module _ (g : Setting) (fit : IsFitting g) (m : MirState) (l : State) (floors : 
       let first : h 1 ≡ l.top.registers 1 = same 1 (omega arith) in
       record {
         running = refl;
-        plain = record { raised = s.plain.raised; made = s.plain.made; temps = nameless; memory = s.plain.memory };
+        plain = record { raised = s.plain.raised; made = s.plain.made; waiting = s.plain.waiting };
         pending = s.pending;
         depth = s.depth;
         activation = record {
@@ -181,11 +180,11 @@ module _ (g : Setting) (fit : IsFitting g) (m : MirState) (l : State) (floors : 
       absurd (omega arith)
   at_least f number arguments to k (suc n) now ends = omega arith
 
-  abbrev above : List ℕ → (ℕ → Value) → MirState
+  abbrev above : List ℕ → (ℕ → ℤ) → MirState
   above text temps = record m { world = called_world text temps m.world; work = rest_above g m l floors i is next }
 
   -- what is written is paid for
-  called_costs : (IsLight i → ⊥) → (text : List ℕ) (temps : ℕ → Value) → mir_step (managed g) m ≡ above text temps → 16 + (512 + length text) ≤ most_for_one * mir_cost (managed g) m
+  called_costs : (IsLight i → ⊥) → (text : List ℕ) (temps : ℕ → ℤ) → mir_step (managed g) m ≡ above text temps → 16 + (512 + length text) ≤ most_for_one * mir_cost (managed g) m
   called_costs light text temps step =
       let paid = (heavy g fit m l floors i is next light).least in
       let cost : mir_cost (managed g) m ≡ mir_effort (managed g) m (above text temps) = cost_is g fit m l floors i is next ∙ ap (mir_effort (managed g) m) step in
@@ -193,8 +192,8 @@ module _ (g : Setting) (fit : IsFitting g) (m : MirState) (l : State) (floors : 
       omega arith
 
   -- the call, behind other code, does what managed code does
-  called_comes : (f : ℕ → ℕ) (number : ℕ) (arguments : List VirtualRegister) (to : VirtualRegister) (text : List ℕ) (temps : ℕ → Value) {IsValue : ℕ → Type 0} → Goes g 0 16 l (calls f number arguments to) → (IsLight i → ⊥) → (done : CallsTo g.low g.placement (calls f number arguments to) (operands arguments to) rest IsValue text l.memory (512 + length text)) → ((t : ℕ) → IsNameless (temps t)) → SameVariables (here m floors) l.top.registers (λ r. if nat_eq r to.0 then done.value else f r) → Temporaries (here m floors) temps (λ r. if nat_eq r to.0 then done.value else f r) → AreFine g.core g.mir (here m floors).number (here m floors).routine is → mir_step (managed g) m ≡ above text temps → Comes g m l
-  called_comes f number arguments to text temps goes light done nameless same are fine step =
+  called_comes : (f : ℕ → ℕ) (number : ℕ) (arguments : List VirtualRegister) (to : VirtualRegister) (text : List ℕ) (temps : ℕ → ℤ) {IsValue : ℕ → Type 0} → Goes g 0 16 l (calls f number arguments to) → (IsLight i → ⊥) → (done : CallsTo g.low g.placement (calls f number arguments to) (operands arguments to) rest IsValue text l.memory (512 + length text)) → SameVariables (here m floors) l.top.registers (λ r. if nat_eq r to.0 then done.value else f r) → Temporaries (here m floors) temps (λ r. if nat_eq r to.0 then done.value else f r) → AreFine g.core g.mir (here m floors).number (here m floors).routine is → mir_step (managed g) m ≡ above text temps → Comes g m l
+  called_comes f number arguments to text temps goes light done same are fine step =
       let h = λ (r : ℕ). if nat_eq r to.0 then done.value else f r in
       let k : State = record (at l h rest) { memory = done.memory; output = l.output ++ text } in
       let some = at_least f number arguments to k done.steps refl done.path.ends in
@@ -204,7 +203,7 @@ module _ (g : Setting) (fit : IsFitting g) (m : MirState) (l : State) (floors : 
         goes = goes_within g 1 (most_for_one * mir_cost (managed g) m) l k (goes_then g 0 1 1 l (calls f number arguments to) k (omega arith) goes call_goes) (called_costs light text temps step);
         stands = subst (λ x. Stands g x k) (sym step) (stands_on g (above text temps) k next.ending next.frames (record {
           floors = floors;
-          stays = stays_called g fit m l floors next.stays text temps (rest_above g m l floors i is next) h rest done.memory done.same nameless same are;
+          stays = stays_called g fit m l floors next.stays text temps (rest_above g m l floors i is next) h rest done.memory done.same same are;
           position = rest_stands g m l floors i is next fine;
         }));
       }
@@ -238,8 +237,8 @@ module _ (g : Setting) (fit : IsFitting g) (m : MirState) (l : State) (floors : 
       let to = scratch_of bank 0 in
       let scratch = a.floor.fits.scratch in
       let kept_h : KeptBelow bank.scratch l.top.registers (λ r. if nat_eq r to.0 then does.value else f r) = λ r low. let t : nat_eq r to.0 ≡ false = grind (arith, nat_tests) in ap (λ b. if b then does.value else f r) t ∙ kept_f r low in
-      called_comes f number arguments to o.bytes m.world.temps goes light does next.stays.plain.temps (λ r low. kept_h r (omega arith))
-      (λ t low. subst (λ x. IsWordOf x (number_in (m.world.temps t))) (sym (kept_h (bank.temporaries + t) (omega arith))) (a.kept.temporaries t low)) fine step
+      called_comes f number arguments to o.bytes m.world.temps goes light does (λ r low. kept_h r (omega arith))
+      (λ t low. subst (λ x. IsWordOf x (m.world.temps t)) (sym (kept_h (bank.temporaries + t) (omega arith))) (a.kept.temporaries t low)) fine step
   outcome_comes f number arguments (InTemporary t) true (reached o) taken kept_f goes light does fine step =
       let a = next.stays.activation in
       let fits = a.floor.fits in
@@ -250,8 +249,8 @@ module _ (g : Setting) (fit : IsFitting g) (m : MirState) (l : State) (floors : 
         result = let e : nat_eq to.0 to.0 ≡ true = grind (arith, nat_tests) in subst (λ b. IsWordOf (if b then does.value else f to.0) o.value) (sym e) does.fits;
         others = λ r low other. let e : nat_eq r to.0 ≡ false = grind (arith, nat_tests, other) in ap (λ b. if b then does.value else f r) e ∙ kept_f r (omega arith);
       } in
-      let temps = λ (u : ℕ). if nat_eq u t.0 then number_value o.value else m.world.temps u in
-      called_comes f number arguments to o.bytes temps goes light does (nameless_set t.0 o.value m.world.temps next.stays.plain.temps)
+      let temps = λ (u : ℕ). if nat_eq u t.0 then o.value else m.world.temps u in
+      called_comes f number arguments to o.bytes temps goes light does
       (variables_kept g (here m floors) fits t l.top.registers h becomes.others) (temporary_set g (here m floors) fits t o.value m.world.temps l.top.registers h becomes a.kept.temporaries) fine step
 
 -- ---- operands

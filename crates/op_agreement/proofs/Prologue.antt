@@ -28,6 +28,7 @@ use Rattle.op_core.specs.declared.ids.TypeId.{TypeId}
 use Rattle.op_core.specs.declared.program.Core.{Core}
 use Rattle.op_core.specs.declared.routine.Variable.{Variable}
 use Rattle.op_expand.specs.Calls.{runtime}
+use Rattle.op_meaning.specs.Frames.{Handed}
 use Rattle.op_places.specs.Frames.{parameters_of, returning_of}
 use Rattle.op_places.specs.Homes.{home_at, parameter}
 use Rattle.op_expand.specs.Routines.{all_received, beginning, begun_with_stack, code_of, received}
@@ -38,7 +39,6 @@ use Rattle.op_places.specs.declared.homes.Home.{Home}
 use Rattle.op_places.specs.declared.homes.Home.TheVariants.{Held, Stored as StoredHome, Shared}
 use Rattle.op_low.specs.State.{Caller, State, block_of}
 use Rattle.op_low.specs.declared.instruction.Instruction.{Instruction as LowInstruction}
-use Rattle.op_meaning.specs.Calls.{Handed}
 use Rattle.op_meaning.specs.Expressions.{result_of}
 use Rattle.op_meaning.specs.Shapes.{refers, result_of_routine, type_of_local, variables_of, zero_of}
 use Rattle.op_meaning.specs.Values.{Value, Holder, global, local, temporary, object, same_holder}

@@ -169,6 +169,6 @@ module _ (g : Setting) (fit : IsFitting g) (m : MirState) (l : State) (floors : 
             (goes_then g (fewest_steps code) 1 1 start (at l reached.h (store ∷ rest)) k (omega arith) reached.goes puts.goes);
         stays = stays_put g fit floors m l s whole_place type (reached.h (spot free).base.0 + (spot free).offset) reached.is puts.some small x puts.memory puts.changed above reached.h rest plain puts.bytes puts.lies
             (λ r less. kept r (omega arith))
-            (λ t less. subst (λ w. IsWordOf w (number_in (m.world.temps t))) (sym (kept (frame.bank.temporaries + t) (omega arith))) (a.kept.temporaries t less));
+            (λ t less. subst (λ w. IsWordOf w (m.world.temps t)) (sym (kept (frame.bank.temporaries + t) (omega arith))) (a.kept.temporaries t less));
         now = refl;
       }

@@ -13,6 +13,7 @@ use Rattle.op_constants.specs.Shapes.{is_composite}
 use Rattle.op_core.specs.declared.program.Core.{Core}
 use Rattle.op_core.specs.declared.routine.Variable.{Variable}
 use Rattle.op_core.specs.declared.types.IntegerKind.{IntegerKind}
+use Rattle.op_meaning.specs.Frames.{Handed}
 use Rattle.op_places.specs.Homes.{home_at, parameter, rounded}
 use Rattle.op_places.specs.Moves.{held_by, near, store_op, taken_code}
 use Rattle.op_places.specs.Places.{place_code, place_of}
@@ -25,7 +26,6 @@ use Rattle.op_low.specs.State.{Caller, State}
 use Rattle.op_low.specs.declared.ids.VirtualRegister.{VirtualRegister}
 use Rattle.op_low.specs.declared.instruction.Instruction.{Instruction as LowInstruction}
 use Rattle.op_low.specs.declared.instruction.Instruction.TheVariants.{Store as StoreWord}
-use Rattle.op_meaning.specs.Calls.{Handed}
 use Rattle.op_meaning.specs.Numbers.{low_bits_of}
 use Rattle.op_meaning.specs.Shapes.{Shape, shape_of, single, is_reference}
 use Rattle.op_meaning.specs.Statements.{kind_by}

@@ -97,7 +97,7 @@ module _ (g : Setting) (fit : IsFitting g) (m : MirState) (l : State) (floors : 
 
   abbrev pub returned : Receiver → Value → MirState
   returned receiver x = record {
-    world = received (tables (managed g)) receiver x (record m.world { temps = c.temps; made = c.made; depth = m.world.depth - 1 });
+    world = received (tables (managed g)) receiver x (record m.world { temps = c.temps; waiting = c.waiting; made = c.made; depth = m.world.depth - 1 });
     routine = c.routine;
     work = c.work;
     frames = c.frames;
@@ -124,7 +124,7 @@ module _ (g : Setting) (fit : IsFitting g) (m : MirState) (l : State) (floors : 
       let behind : MirState = record m { work = rest_above g m l floors Return is next } in
       let value_is : result_in (tables (managed g)) m.routine m.world ≡ value = ap₂ (λ d r. m.world.memory (local d (result_of_routine g.core r))) s.depth (sym s.activation.number) in
       step_here g fit m l floors Return is next ∙ ap (λ xs. goes_back (tables (managed g)) xs behind) above
-      ∙ ap₂ (λ (x : Value) (n : ℕ). let y : MirState = record { world = received (tables (managed g)) c.receiver x (record m.world { temps = c.temps; made = c.made; depth = m.world.depth - 1 }); routine = c.routine; work = c.work; frames = c.frames; callers = cs; pending = m.pending; charged = n; counts = tt } in y) value_is charged
+      ∙ ap₂ (λ (x : Value) (n : ℕ). let y : MirState = record { world = received (tables (managed g)) c.receiver x (record m.world { temps = c.temps; waiting = c.waiting; made = c.made; depth = m.world.depth - 1 }); routine = c.routine; work = c.work; frames = c.frames; callers = cs; pending = m.pending; charged = n; counts = tt } in y) value_is charged
 
   -- the code of the return
   pub result_code_is : code_for g.core g.mir frame Return ≡ result_code g.core frame of variable
@@ -264,5 +264,5 @@ module _ (g : Setting) (fit : IsFitting g) (m : MirState) (l : State) (floors : 
       where
         by : (n : ℕ) → IsWordOf n (number_in value) → (r : Receiver) → c.receiver ≡ r → WordGoes (floors (length cs)).frame (scratch_of (floors (length cs)).frame.bank 0) r lc.to → Stands g (returned c.receiver value) (goes_on n)
         by n word nowhere e to_is = subst (λ r. Stands g (returned r value) (goes_on n)) (sym e) (gone_scratch g fit m l floors next.stays c cs lc lcs above lows caller next.ending (omega arith) n)
-        by n word (to_temp t) e to_is = subst (λ r. Stands g (returned r value) (goes_on n)) (sym e) (gone_temporary g fit m l floors next.stays c cs lc lcs above lows caller next.ending t to_is n value word (next.stays.plain.memory (local (length m.callers) v)))
+        by n word (to_temp t) e to_is = subst (λ r. Stands g (returned r value) (goes_on n)) (sym e) (gone_temporary g fit m l floors next.stays c cs lc lcs above lows caller next.ending t to_is n (number_in value) word)
         by n word (to_place type path) e to_is = absurd (no_place path type e)

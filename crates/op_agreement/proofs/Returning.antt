@@ -1,6 +1,6 @@
 -- A procedure returns, and its caller goes on.
 use Rattle.std.proofs.Common.{◌≡◌, ◌≤◌, ◌<◌, inl, inr, ℕ, suc, ◌+◌, ◌-◌, List, [], ◌∷◌, length, Option, None, refl, sym, ap, ap₂, ◌∙◌, subst, arith, ◌*◌}
-use Rattle.std.specs.Prelude.{false, nat_eq, slice_get, if◌then◌else◌}
+use Rattle.std.specs.Prelude.{false, nat_eq, slice_get, if◌then◌else◌, ℤ}
 use Rattle.std.proofs.lemmas.Bool.Decides.{nat_tests}
 use Rattle.op_compute.specs.Bank.{scratch_of}
 use Rattle.op_compute.specs.Meaning.{IsWordOf}
@@ -23,7 +23,6 @@ use Rattle.op_meaning.specs.Machine.{returned}
 use Rattle.op_meaning.specs.Values.{Value, number_in}
 use Rattle.op_meaning.specs.World.{Running as GoingOn}
 use Rattle.op_mir.specs.Machine.{MirCaller, MirState, execute, mir_step, tables, mir_cost}
-use Rattle.op_mir.specs.Plain.{IsNameless}
 use Rattle.op_mir.specs.View.{view_receiver}
 use Rattle.op_mir.specs.declared.instruction.Instruction.TheVariants.{Return}
 use Rattle.op_mir.specs.declared.instruction.Instruction.{Instruction}
@@ -44,11 +43,11 @@ use Rattle.op_agreement.specs.Stands.{ActivationStands, AreStillDue, CallersStan
 use Rattle.op_agreement.specs.Steps.{Comes, most_for_one}
 use Rattle.op_agreement.specs.Typed.{IsTypedReceiver}
 
-module _ (g : Setting) (fit : IsFitting g) (m : MirState) (l : State) (floors : ℕ → Floor) (s : Stays g floors m l) (c : MirCaller) (cs : List MirCaller) (lc : Caller) (lcs : List Caller) (above : m.callers ≡ c ∷ cs) (below spare under : ℕ) (frames : c.frames ≡ []) (nameless : (t : ℕ) → IsNameless (c.temps t)) (made : c.made ≡ []) (position : Position g (floors (length cs)) c.work lc.activation.now) (activation : ActivationStands g floors (length cs) m.world.memory m.world.bound c.temps c.routine lc.activation below spare under) (callers : CallersStand g floors m.world.memory m.world.bound cs lcs c.routine (lc.activation.registers result_address.0) below spare under) (room : below ≤ l.limit) where
+module _ (g : Setting) (fit : IsFitting g) (m : MirState) (l : State) (floors : ℕ → Floor) (s : Stays g floors m l) (c : MirCaller) (cs : List MirCaller) (lc : Caller) (lcs : List Caller) (above : m.callers ≡ c ∷ cs) (below spare under : ℕ) (frames : c.frames ≡ []) (waiting : (t : ℕ) → c.waiting t ≡ None) (made : c.made ≡ []) (position : Position g (floors (length cs)) c.work lc.activation.now) (activation : ActivationStands g floors (length cs) m.world.memory m.world.bound c.temps c.routine lc.activation below spare under) (callers : CallersStand g floors m.world.memory m.world.bound cs lcs c.routine (lc.activation.registers result_address.0) below spare under) (room : below ≤ l.limit) where
   -- the state of managed code with these temporaries, and the one of low code with this value in a register
-  abbrev back_above : (ℕ → Value) → MirState
+  abbrev back_above : (ℕ → ℤ) → MirState
   back_above temps = record {
-    world = record m.world { temps = temps; made = c.made; depth = m.world.depth - 1 };
+    world = record m.world { temps = temps; waiting = c.waiting; made = c.made; depth = m.world.depth - 1 };
     routine = c.routine;
     work = c.work;
     frames = c.frames;
@@ -61,8 +60,8 @@ module _ (g : Setting) (fit : IsFitting g) (m : MirState) (l : State) (floors : 
   abbrev back_below : VirtualRegister → ℕ → State
   back_below to v = record l { top = with_value to v lc.activation; callers = lcs; limit = below; room = spare; ending = Running }
 
-  pub back_stands : (temps : ℕ → Value) (to : VirtualRegister) (v : ℕ) → SameVariables (floors (length cs)) lc.activation.registers (with_value to v lc.activation).registers → Temporaries (floors (length cs)) temps (with_value to v lc.activation).registers → ((t : ℕ) → IsNameless (temps t)) → m.world.ending ≡ GoingOn → Stands g (back_above temps) (back_below to v)
-  back_stands temps to v same are plain ending =
+  pub back_stands : (temps : ℕ → ℤ) (to : VirtualRegister) (v : ℕ) → SameVariables (floors (length cs)) lc.activation.registers (with_value to v lc.activation).registers → Temporaries (floors (length cs)) temps (with_value to v lc.activation).registers → m.world.ending ≡ GoingOn → Stands g (back_above temps) (back_below to v)
+  back_stands temps to v same are ending =
       let a = activation in
       let fits = a.floor.fits in
       let behind = fits.behind in
@@ -76,7 +75,7 @@ module _ (g : Setting) (fit : IsFitting g) (m : MirState) (l : State) (floors : 
         floors = floors;
         stays = record {
           running = refl;
-          plain = record { raised = s.plain.raised; made = made; temps = plain; memory = s.plain.memory };
+          plain = record { raised = s.plain.raised; made = made; waiting = waiting };
           pending = s.pending;
           depth = depth;
           activation = record {
@@ -126,7 +125,7 @@ module _ (g : Setting) (fit : IsFitting g) (m : MirState) (l : State) (floors : 
   procedure_by (c ∷ cs) [] above lows s = absurd s
   procedure_by (c ∷ cs) (lc ∷ lcs) above lows (inr (below, under, spare, status, a, ended, others, are, charge, at_, more, waits, activation, callers)) =
       closing_again g fit m l floors is next c cs lc ended others above (lows ∙ ap (λ xs. lc ∷ xs) are) below under spare status a charge at_ more waits activation callers
-  procedure_by (c ∷ cs) (lc ∷ lcs) above lows (inl (below, under, spare, declared, low, charge, at_, more, frames, receiver, to, typed, result, nameless, made, position, activation, callers)) =
+  procedure_by (c ∷ cs) (lc ∷ lcs) above lows (inl (below, under, spare, declared, low, charge, at_, more, frames, receiver, to, typed, result, waiting, made, position, activation, callers)) =
       let s = next.stays in
       let a = s.activation in
       let number : (here m floors).number ≡ m.routine = a.number in
@@ -145,9 +144,9 @@ module _ (g : Setting) (fit : IsFitting g) (m : MirState) (l : State) (floors : 
       let limit : l.limit - (routine_of g.low l.top.routine).locals ≡ below = omega arith in
       let room : l.room + space g.low g.placement l.top.routine ≡ spare = ap (λ r. l.room + space g.low g.placement r) (a.same ∙ ap (λ r. runtime + r) number) ∙ sym more in
       let charged : m.charged - (managed g).charge m.routine ≡ under = omega arith in
-      let k = back_below g fit m l floors s c cs lc lcs above below spare under frames nameless made position activation callers (omega arith) lc.to v in
-      let back = back_above g fit m l floors s c cs lc lcs above below spare under frames nameless made position activation callers (omega arith) c.temps in
-      let w = record m.world { temps = c.temps; made = c.made; depth = m.world.depth - 1 } in
+      let k = back_below g fit m l floors s c cs lc lcs above below spare under frames waiting made position activation callers (omega arith) lc.to v in
+      let back = back_above g fit m l floors s c cs lc lcs above below spare under frames waiting made position activation callers (omega arith) c.temps in
+      let w = record m.world { temps = c.temps; waiting = c.waiting; made = c.made; depth = m.world.depth - 1 } in
       let value = result_in (tables (managed g)) m.routine m.world in
       let step : mir_step (managed g) m ≡ back =
       step_here g fit m l floors Return is next ∙ ap (λ xs. returned (tables (managed g)) xs behind_return) above
@@ -161,10 +160,10 @@ module _ (g : Setting) (fit : IsFitting g) (m : MirState) (l : State) (floors : 
             (goes_within g 1 (most_for_one * mir_cost (managed g) m) (at l l.top.registers (LowReturn left ∷ rest)) k
             (goes_to g 1 (at l l.top.registers (LowReturn left ∷ rest)) (act g.low g.placement (LowReturn left) (at l l.top.registers rest)) k does (goes_one g l l.top.registers (LowReturn left) rest refl)) (running_costs g m next.ending));
         stands = subst (λ x. Stands g x k) (sym step)
-            (back_stands g fit m l floors s c cs lc lcs above below spare under frames nameless made position activation callers (omega arith) c.temps lc.to v
+            (back_stands g fit m l floors s c cs lc lcs above below spare under frames waiting made position activation callers (omega arith) c.temps lc.to v
             (λ r less. kept r (omega arith))
-            (λ t less. subst (λ x. IsWordOf x (number_in (c.temps t))) (sym (kept ((floors (length cs)).frame.bank.temporaries + t) (omega arith))) (activation.kept.temporaries t less))
-            nameless next.ending);
+            (λ t less. subst (λ x. IsWordOf x (c.temps t)) (sym (kept ((floors (length cs)).frame.bank.temporaries + t) (omega arith))) (activation.kept.temporaries t less))
+            next.ending);
       }
 
   pub procedure_comes : Comes g m l

@@ -12,7 +12,7 @@ use Rattle.op_mir.specs.declared.action.Action.{Action}
 use Rattle.op_mir.specs.declared.code.Block.{Block}
 use Rattle.op_mir.specs.declared.code.Routine.{Routine}
 use Rattle.op_mir.specs.declared.instruction.Call.{Call as Operands}
-use Rattle.op_mir.specs.declared.instruction.Given.TheVariants.{ByValue, ByReference, ByPlace, ByCopy}
+use Rattle.op_mir.specs.declared.instruction.Given.TheVariants.{ByValue, ByPlace, ByCopy}
 use Rattle.op_mir.specs.declared.instruction.Given.{Given}
 use Rattle.op_mir.specs.declared.instruction.Instruction.TheVariants.{Act, Call, Jump, When, Unless, Switch, Dispatch, MakeDue, Stop, Return}
 use Rattle.op_mir.specs.declared.instruction.Instruction.{Instruction}
@@ -60,7 +60,6 @@ module _ (root : Root) where
   given_stays roots (ByPlace path) h = place_stays roots path.root h
   given_stays roots (ByCopy of path) h = temporary_stays roots path.root h
   given_stays roots (ByValue kind t) h = h
-  given_stays roots (ByReference t) h = h
 
   pub givens_stay : (roots : List Root) (xs : List Given) → IsAmong roots → IsAmong (fold with_given roots xs)
   givens_stay roots [] h = h
@@ -138,7 +137,6 @@ module _ (core : Core) (r : ℕ) (x : Routine) (has : HasVariables core r x) whe
   given_home roots (ByPlace path) among = placed roots path.root among
   given_home roots (ByCopy of path) among = rooted roots path.root among
   given_home roots (ByValue kind t) among = tt
-  given_home roots (ByReference t) among = tt
 
   givens_home : (roots : List Root) (given : List Given) → AreAmong (fold with_given roots given) (roots_of x) → HaveGiven core r (frame_of core r x) given
   givens_home roots [] among = tt

@@ -1,6 +1,6 @@
 -- States that stand for one another: what is known where both go on, and how that is kept.
 use Rattle.std.proofs.Common.{◌≡◌, ◌≤◌, ◌<◌, ◌⊎◌, ℕ, suc, ◌+◌, List, [], ◌∷◌, ◌++◌, length, None, refl, sym, ap, ◌∙◌, subst, arith}
-use Rattle.std.specs.Prelude.{◌^◌, map}
+use Rattle.std.specs.Prelude.{◌^◌, map, ℤ}
 use Rattle.std.specs.List.{flat_map}
 use Rattle.op_compute.specs.Meaning.{IsWordOf}
 use Rattle.op_compute.specs.Straight.{at}
@@ -15,7 +15,6 @@ use Rattle.op_meaning.specs.Frames.{Frame}
 use Rattle.op_meaning.specs.World.{Running as GoingOn}
 use Rattle.op_mir.specs.Code.{Instr}
 use Rattle.op_mir.specs.Machine.{MirState, execute, mir_acted, mir_done, mir_step, mir_step_by, mir_stepped}
-use Rattle.op_mir.specs.Plain.{IsNameless}
 use Rattle.op_mir.specs.View.{view_instruction}
 use Rattle.op_mir.specs.declared.instruction.Instruction.{Instruction}
 use Rattle.op_agreement.specs.Chart.{Floor}
@@ -66,14 +65,14 @@ stands_on g m l ending frames goes = subst (λ e. StandsBy g e m.frames m l) (sy
 abbrev pub SameVariables : Floor → (ℕ → ℕ) → (ℕ → ℕ) → Type 0
 SameVariables f old new = (r : ℕ) → r < f.frame.bank.temporaries → new r ≡ old r
 
-abbrev pub Temporaries : Floor → (ℕ → Value) → (ℕ → ℕ) → Type 0
-Temporaries f temps registers = (t : ℕ) → t < f.routine.temporaries → IsWordOf (registers (f.frame.bank.temporaries + t)) (number_in (temps t))
+abbrev pub Temporaries : Floor → (ℕ → ℤ) → (ℕ → ℕ) → Type 0
+Temporaries f temps registers = (t : ℕ) → t < f.routine.temporaries → IsWordOf (registers (f.frame.bank.temporaries + t)) (temps t)
 
 module _ (g : Setting) (floors : ℕ → Floor) where
   held_below : (d v r : ℕ) → FrameFits g.core (floors d).number (floors d).routine (floors d).frame → v < (variables_of g.core (floors d).number).count → home_at (floors d).frame.homes (record { 0 = v }) ≡ Held (record { 0 = r }) → r < (floors d).frame.bank.temporaries
   held_below d v r fits low is = (subst (HomeFits (floors d).frame) is (fits.homes (record { 0 = v }) low)).1
 
-  pub kept_registers : (d : ℕ) (values : Holder → Value) (bound : ℕ → ℕ → Place) (temps new_temps : ℕ → Value) (old new : ℕ → ℕ) → FrameFits g.core (floors d).number (floors d).routine (floors d).frame → SameVariables (floors d) old new → Temporaries (floors d) new_temps new → AreKept g floors d values bound temps old → AreKept g floors d values bound new_temps new
+  pub kept_registers : (d : ℕ) (values : Holder → Value) (bound : ℕ → ℕ → Place) (temps new_temps : ℕ → ℤ) (old new : ℕ → ℕ) → FrameFits g.core (floors d).number (floors d).routine (floors d).frame → SameVariables (floors d) old new → Temporaries (floors d) new_temps new → AreKept g floors d values bound temps old → AreKept g floors d values bound new_temps new
   kept_registers d values bound temps new_temps old new fits same are kept = record {
     variables = λ v r is home. subst (λ x. IsWordOf x (number_in (values (local d v)))) (sym (same r (held_below d v r fits is.0 home))) (kept.variables v r is home);
     references = λ v is. subst (Rattle.op_agreement.specs.Chart.IsAt g floors d (bound d v) _) (sym (same (parameter v) (held_below d v (parameter v) fits is.0 (fits.references (record { 0 = v }) is)))) (kept.references v is);
@@ -82,8 +81,8 @@ module _ (g : Setting) (floors : ℕ → Floor) where
   }
 
 -- temporaries of the activation under way change, and nothing else
-pub stays_registers : (g : Setting) (floors : ℕ → Floor) (m : MirState) (l : State) (temps : ℕ → Value) (rest : List Instr) (f : ℕ → ℕ) (now : List LowInstruction) → SameVariables (here m floors) l.top.registers f → Temporaries (here m floors) temps f → ((t : ℕ) → IsNameless (temps t)) → Stays g floors m l → Stays g floors (record m { world = record m.world { temps = temps }; work = rest }) (at l f now)
-stays_registers g floors m l temps rest f now same are nameless s =
+pub stays_registers : (g : Setting) (floors : ℕ → Floor) (m : MirState) (l : State) (temps : ℕ → ℤ) (rest : List Instr) (f : ℕ → ℕ) (now : List LowInstruction) → SameVariables (here m floors) l.top.registers f → Temporaries (here m floors) temps f → Stays g floors m l → Stays g floors (record m { world = record m.world { temps = temps }; work = rest }) (at l f now)
+stays_registers g floors m l temps rest f now same are s =
     let a = s.activation in
     let fits = a.floor.fits in
     let behind = fits.behind in
@@ -91,7 +90,7 @@ stays_registers g floors m l temps rest f now same are nameless s =
     let first : f 1 ≡ l.top.registers 1 = same 1 (omega arith) in
     record {
       running = refl;
-      plain = record { raised = s.plain.raised; made = s.plain.made; temps = nameless; memory = s.plain.memory };
+      plain = record { raised = s.plain.raised; made = s.plain.made; waiting = s.plain.waiting };
       pending = s.pending;
       depth = s.depth;
       activation = record {

@@ -32,10 +32,8 @@ use Rattle.op_meaning.specs.Frames.{Pending, Program}
 use Rattle.op_meaning.specs.Shapes.{first_of, type_of_variable, variables_in, zero_of}
 use Rattle.op_meaning.specs.Start.{first_memory}
 use Rattle.op_meaning.specs.Values.{Value, Holder, global, local, temporary, object}
-use Rattle.op_mir.proofs.PlainLemmas.{nameless_first, nameless_zero}
 use Rattle.op_mir.specs.Code.{Instr, becoming_due, blocks_in, blocks_of, entering, items_of, program_blocks, ret, unit_code}
 use Rattle.op_mir.specs.Machine.{block_at, block_or, mir_start}
-use Rattle.op_mir.specs.Plain.{IsNameless}
 use Rattle.op_mir.specs.View.{routine_at, view_block, view_instruction, view_routine}
 use Rattle.op_mir.specs.declared.code.Block.{Block}
 use Rattle.op_mir.specs.declared.code.Routine.{Routine}
@@ -68,15 +66,6 @@ global_first p v None is = rw is refl
 global_first p v (Some value) is = rw is refl
 
 -- what a variable begins with names no instance
-first_nameless : (g : Setting) (h : Holder) → IsNameless (first_memory (program_in g) h)
-first_nameless g (global v) = by ((program_in g).first v) refl
-  where
-    by : (first : Option FirstValue) → (program_in g).first v ≡ first → IsNameless (first_memory (program_in g) (global v))
-    by None is = subst IsNameless (sym (global_first (program_in g) v None is)) (nameless_zero g.core (type_of_variable g.core v))
-    by (Some value) is = subst IsNameless (sym (global_first (program_in g) v (Some value) is)) (nameless_first g.core (type_of_variable g.core v) value)
-first_nameless g (local d v) = tt
-first_nameless g (temporary d of n) = tt
-first_nameless g (object name) = tt
 
 -- the code of a unit makes its finalization part due
 dues_unit : (first last : Option RoutineId) (rest : List Instr) → dues_in ((entering first ++ becoming_due last) ++ rest) ≡ option_to_list last ++ dues_in rest
@@ -259,7 +248,7 @@ module _ (g : Setting) (fit : IsFitting g) (loaded : IsLoaded g) (input : List �
             floors = floors_first;
             stays = record {
               running = refl;
-              plain = record { raised = refl; made = refl; temps = λ t. tt; memory = first_nameless g };
+              plain = record { raised = refl; made = refl; waiting = λ t. refl };
               pending = subst (ArePending (finalizations g.core)) (sym loaded.pending) (record { few = omega arith; are = refl });
               depth = refl;
               activation = record {

@@ -1,15 +1,17 @@
 -- What the program itself still makes due, from step to step.
 use Rattle.std.proofs.Common.{◌≡◌, ℕ, ℤ, zero, suc, ◌+◌, List, [], ◌∷◌, drop, length, map, Option, Some, None, refl, sym, ap, ◌∙◌, subst, arith}
 use Rattle.std.specs.Prelude.{Bool, true, false, pos, negsuc, nat_lt, if◌then◌else◌}
+use Rattle.op_agreement.proofs.Charging.{call_is, goes_in_with}
 use Rattle.op_expand.specs.Calls.{finalizations, result_address}
 use Rattle.op_low.specs.State.{Caller, State}
-use Rattle.op_meaning.specs.Calls.{Handed, all_handed, begun, called_with}
+use Rattle.op_meaning.specs.Calls.{all_handed, begun}
 use Rattle.op_meaning.specs.Ending.{closed}
-use Rattle.op_meaning.specs.Frames.{Frame, Pending, closing, empty_global, fails, finalize}
+use Rattle.op_meaning.specs.Frames.{Frame, Pending, closing, empty_global, fails, finalize, Handed}
 use Rattle.op_meaning.specs.Items.{Receiver, nowhere}
 use Rattle.op_meaning.specs.Machine.{low_eight, returned}
 use Rattle.op_meaning.specs.Numbers.{is_true}
 use Rattle.op_meaning.specs.Unwinding.{closes}
+use Rattle.op_meaning.specs.Values.{Reached, reached, failing}
 use Rattle.op_meaning.specs.World.{number_at, Ended as HasEnded}
 use Rattle.op_mir.specs.Code.{Instr}
 use Rattle.op_mir.specs.Machine.{Code, MirCaller, MirState, arm_for, code_rules, dispatched, execute, go_if, go_to, mir_step, tables}
@@ -112,11 +114,11 @@ module _ (g : Setting) (fit : IsFitting g) (m : MirState) (l : State) (floors : 
   act_due a landing is next = kept (Act a landing) is next (λ light. light) (record { callers = refl; pending = refl })
 
   -- a call: the caller waits with what was left
-  begun_due : (r : ℕ) (receiver : Receiver) (handed : Option (List Handed)) (rest : List Instr) → m.frames ≡ [] → (m.callers ≡ [] → dues_in rest ≡ dues_in m.work) → AreStillDue g (called_with (code_rules (managed g)) r receiver rest handed (record m { work = rest }))
-  begun_due r receiver None rest none same = kept_due g m (fails (tables (managed g)) 201 (record m { work = rest })) none refl refl same due
-  begun_due r receiver (Some given) rest none same = by (nat_lt g.stack (m.charged + (managed g).charge r)) refl
+  begun_due : (r : ℕ) (receiver : Receiver) (handed : Reached (List Handed)) (rest : List Instr) → m.frames ≡ [] → (m.callers ≡ [] → dues_in rest ≡ dues_in m.work) → AreStillDue g (goes_in_with (managed g) r receiver handed (record m { work = rest }))
+  begun_due r receiver (failing error) rest none same = kept_due g m (fails (tables (managed g)) error (record m { work = rest })) none refl refl same due
+  begun_due r receiver (reached given) rest none same = by (nat_lt g.stack (m.charged + (managed g).charge r)) refl
     where
-      by : (b : Bool) → nat_lt g.stack (m.charged + (managed g).charge r) ≡ b → AreStillDue g (begun (code_rules (managed g)) r receiver rest given (record m { work = rest }))
+      by : (b : Bool) → nat_lt g.stack (m.charged + (managed g).charge r) ≡ b → AreStillDue g (begun (code_rules (managed g)) r receiver given (record m { work = rest }))
       by true over = rw over (kept_due g m (fails (tables (managed g)) 202 (record m { work = rest })) none refl refl same due)
       by false under = rw under (λ open_. same_rest m.work rest m.callers same ∙ due open_.1)
 
@@ -137,7 +139,7 @@ module _ (g : Setting) (fit : IsFitting g) (m : MirState) (l : State) (floors : 
   instruction_due (Dispatch t block) is next =
       kept (Dispatch t block) is next (λ light. light) (dispatch_keeps (managed g) (number_at m.world t.0) t.0 block.0 m (behind (Dispatch t block) is next) (same_here (Dispatch t block) is next))
   instruction_due (Call r call) is next =
-      subst (AreStillDue g) (sym (step_here g fit m l floors (Call r call) is next))
+      subst (AreStillDue g) (sym (step_here g fit m l floors (Call r call) is next ∙ call_is (managed g) fit.program.outs r.0 (view_receiver call.receiver) (all_handed m.world (map view_given call.given)) (behind (Call r call) is next)))
       (begun_due r.0 (view_receiver call.receiver) (all_handed m.world (map view_given call.given)) (rest_above g m l floors (Call r call) is next) next.frames (λ none. sym (ap dues_in next.above)))
   instruction_due (MakeDue f) is next =
       let alone = main_alone g fit m l floors is f due next in
@@ -167,6 +169,6 @@ closing_due g m status (finalize f ∷ pending) frames parts = by (nat_lt g.stac
     n : MirState
     n = record m { pending = pending }
 
-    by : (b : Bool) → nat_lt g.stack (m.charged + (managed g).charge f.0) ≡ b → AreStillDue g (begun (code_rules (managed g)) f.0 nowhere m.work [] n)
+    by : (b : Bool) → nat_lt g.stack (m.charged + (managed g).charge f.0) ≡ b → AreStillDue g (begun (code_rules (managed g)) f.0 nowhere [] n)
     by true over = rw over (closed_due g (fails (tables (managed g)) 202 n) status [] frames)
     by false under = rw under (λ open_. let clash : closing status ∷ [] ≡ [] = sym frames ∙ first_frames m.frames m.callers open_.1 in absurd cc)

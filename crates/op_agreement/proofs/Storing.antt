@@ -28,7 +28,7 @@ use Rattle.op_meaning.specs.Actions.{at_place, perform}
 use Rattle.op_meaning.specs.Numbers.{low_bits_of}
 use Rattle.op_meaning.specs.Paths.{place_of as place_meant}
 use Rattle.op_meaning.specs.Shapes.{variables_of}
-use Rattle.op_meaning.specs.Values.{Holder, Place, Value, all_of, local, number, number_in, same_holder}
+use Rattle.op_meaning.specs.Values.{Holder, Place, Value, all_of, local, number, number_in, same_holder, Reached as Met, reached as met, failing}
 use Rattle.op_meaning.specs.World.{number_at, with_value}
 use Rattle.op_mir.proofs.PlainLemmas.{plain_perform}
 use Rattle.op_mir.specs.Code.{Instr}
@@ -127,7 +127,7 @@ module _ (g : Setting) (floors : ℕ → Floor) (m : MirState) (l : State) (s : 
             variables = λ u q known at_. held u q known at_ (cases_eq u v);
             references = λ u known. subst (IsAt g floors level (m.world.bound level u) _) (sym (reference u known)) (a.kept.references u known);
             words = λ u known. subst (λ x. x < 2 ^ 32) (sym (reference u known)) (a.kept.words u known);
-            temporaries = λ t low. subst (λ x. IsWordOf x (number_in (m.world.temps t))) (sym (kept ((here m floors).frame.bank.temporaries + t) (omega arith) (λ e. omega arith))) (a.kept.temporaries t low);
+            temporaries = λ t low. subst (λ x. IsWordOf x (m.world.temps t)) (sym (kept ((here m floors).frame.bank.temporaries + t) (omega arith) (λ e. omega arith))) (a.kept.temporaries t low);
           };
           left = ap (λ x. x + m.charged) zeroth ∙ a.left;
           base = a.base;
@@ -240,9 +240,9 @@ module _ (g : Setting) (fit : IsFitting g) (m : MirState) (l : State) (floors : 
     abbrev sw : Path → LowInstruction
     sw path = StoreWord (store_op kind) (register_of frame.bank from) (spot_placed path).base (pos (spot_placed path).offset)
 
-    store_by : (path : Path) (landing : Option BlockId) (next : NextIs (Act (Store path kind from) landing)) (of : TypeId) → Rattle.op_meaning.specs.Shapes.shape_of g.core of ≡ Rattle.op_meaning.specs.Shapes.single kind → PathTo g.core (here m floors).number (view_path path) of → from.0 < (here m floors).routine.temporaries → (o : Option Place) → place_meant m.world (view_path path) ≡ o → l ≡ at l l.top.registers (store_code_placed path ++ (sw path ∷ rest_below g m l floors (Act (Store path kind from) landing) is next)) → PlaceTo g fit m l floors next.stays (fewest_steps (store_code_placed path)) (place_most path) (at l l.top.registers (store_code_placed path ++ (sw path ∷ rest_below g m l floors (Act (Store path kind from) landing) is next))) l.top.registers (scratch_of frame.bank 0) (spot_placed path) (sw path ∷ rest_below g m l floors (Act (Store path kind from) landing) is next) of o → mir_step (managed g) m ≡ record m { world = at_place g.core o (λ p. with_value p (number (low_bits_of kind (number_at m.world from.0))) m.world) m.world; work = rest_above g m l floors (Act (Store path kind from) landing) is next } → IsPlainWorld (at_place g.core o (λ p. with_value p (number (low_bits_of kind (number_at m.world from.0))) m.world) m.world) → Comes g m l
-    store_by path landing next of shape typed low_from None e begins fails step plain = index_fails g fit m l floors is (Act (Store path kind from) landing) next _ (place_most path) _ begins fails (afford g fit m l floors (Act (Store path kind from) landing) is next (λ light. light) (place_most path + 5) (omega arith)) step
-    store_by path landing next of shape typed low_from (Some q) e begins reached step plain =
+    store_by : (path : Path) (landing : Option BlockId) (next : NextIs (Act (Store path kind from) landing)) (of : TypeId) → Rattle.op_meaning.specs.Shapes.shape_of g.core of ≡ Rattle.op_meaning.specs.Shapes.single kind → PathTo g.core (here m floors).number (view_path path) of → from.0 < (here m floors).routine.temporaries → (o : Met Place) → place_meant m.world (view_path path) ≡ o → l ≡ at l l.top.registers (store_code_placed path ++ (sw path ∷ rest_below g m l floors (Act (Store path kind from) landing) is next)) → PlaceTo g fit m l floors next.stays (fewest_steps (store_code_placed path)) (place_most path) (at l l.top.registers (store_code_placed path ++ (sw path ∷ rest_below g m l floors (Act (Store path kind from) landing) is next))) l.top.registers (scratch_of frame.bank 0) (spot_placed path) (sw path ∷ rest_below g m l floors (Act (Store path kind from) landing) is next) of o → mir_step (managed g) m ≡ record m { world = at_place g.core o (λ p. with_value p (number (low_bits_of kind (number_at m.world from.0))) m.world) m.world; work = rest_above g m l floors (Act (Store path kind from) landing) is next } → IsPlainWorld (at_place g.core o (λ p. with_value p (number (low_bits_of kind (number_at m.world from.0))) m.world) m.world) → Comes g m l
+    store_by path landing next of shape typed low_from (failing error) e begins fails step plain = index_fails g fit m l floors is (Act (Store path kind from) landing) next _ (place_most path) _ error begins fails (afford g fit m l floors (Act (Store path kind from) landing) is next (λ light. light) (place_most path + 5) (omega arith)) step
+    store_by path landing next of shape typed low_from (met q) e begins reached step plain =
         let i = Act (Store path kind from) landing in
         let s = next.stays in
         let a = s.activation in
@@ -267,7 +267,7 @@ module _ (g : Setting) (fit : IsFitting g) (m : MirState) (l : State) (floors : 
             floors = floors;
             stays = stays_put g fit floors m l s q of (reached.h spot.base.0 + spot.offset) reached.is (omega arith) small (number (low_bits_of kind x)) stores.memory stores.changed (rest_above g m l floors i is next) reached.h rest plain stores.bytes stores.lies
                 (λ r low. reached.kept r (omega arith))
-                (λ t low. subst (λ y. IsWordOf y (number_in (m.world.temps t))) (sym (reached.kept (bank.temporaries + t) (omega arith))) (a.kept.temporaries t low));
+                (λ t low. subst (λ y. IsWordOf y (m.world.temps t)) (sym (reached.kept (bank.temporaries + t) (omega arith))) (a.kept.temporaries t low));
             position = rest_stands g m l floors i is next (behind_act next.on);
           }));
         }
@@ -315,7 +315,7 @@ module _ (g : Setting) (fit : IsFitting g) (m : MirState) (l : State) (floors : 
   -- ---- looks
 
   -- a look at a variable that a register has
-  pub look_empty : (path : Path) (landing : Option BlockId) (next : NextIs (Act (Look path) landing)) → code_for g.core g.mir frame (Act (Look path) landing) ≡ Const (scratch_of frame.bank 0) 0 ∷ [] → (q : Place) → place_meant m.world (view_path path) ≡ Some q → Comes g m l
+  pub look_empty : (path : Path) (landing : Option BlockId) (next : NextIs (Act (Look path) landing)) → code_for g.core g.mir frame (Act (Look path) landing) ≡ Const (scratch_of frame.bank 0) 0 ∷ [] → (q : Place) → place_meant m.world (view_path path) ≡ met q → Comes g m l
   unfolding outcome execute perform
   look_empty path landing next code q e =
       turned g fit m l floors (Act (Look path) landing) is next (Const (scratch_of frame.bank 0) 0 ∷ []) None code refl (afford g fit m l floors (Act (Look path) landing) is next (λ light. light) 1 (omega arith)) (λ none. behind_act next.on) (λ k e. absurd cc)

@@ -1,6 +1,6 @@
 -- What is kept where values, and the activation on top, change.
 use Rattle.std.proofs.Common.{◌≡◌, ◌≤◌, ◌<◌, ◌⊎◌, inl, inr, ℕ, suc, ◌+◌, List, [], ◌∷◌, length, refl, sym, ap, ◌∙◌, subst, arith}
-use Rattle.std.specs.Prelude.{◌^◌, Bool, true, false, nat_lt, if◌then◌else◌}
+use Rattle.std.specs.Prelude.{◌^◌, Bool, true, false, nat_lt, if◌then◌else◌, ℤ}
 use Rattle.std.proofs.lemmas.Bool.{cases_lt}
 use Rattle.std.proofs.lemmas.Bool.Decides.{nat_tests}
 use Rattle.op_compute.specs.Meaning.{IsWordOf}
@@ -87,7 +87,7 @@ module _ (g : Setting) (old new : ℕ → Floor) where
     abbrev pub SameBound : ℕ → Type 0
     SameBound d = (v : ℕ) → IsVariable g.core (old d).number v true → new_bound d v ≡ bound d v
 
-    pub kept_moved : (d : ℕ) → SameFloors old new d → SameHeld d → SameBound d → (temps : ℕ → Value) (registers : ℕ → ℕ) → AreKept g old d values bound temps registers → AreKept g new d new_values new_bound temps registers
+    pub kept_moved : (d : ℕ) → SameFloors old new d → SameHeld d → SameBound d → (temps : ℕ → ℤ) (registers : ℕ → ℕ) → AreKept g old d values bound temps registers → AreKept g new d new_values new_bound temps registers
     kept_moved d floors held places temps registers k =
         let same : old d ≡ new d = sym (floors d (omega arith)) in
         record {
@@ -96,10 +96,10 @@ module _ (g : Setting) (old new : ℕ → Floor) where
           references = subst (λ f. (v : ℕ) → IsVariable g.core f.number v true → IsAt g new d (new_bound d v) (type_of_local g.core f.number v) (registers (parameter v))) same
               (λ v is. subst (λ q. IsAt g new d q (type_of_local g.core (old d).number v) (registers (parameter v))) (sym (places v is)) (at_moved d floors (bound d v) (type_of_local g.core (old d).number v) (registers (parameter v)) (k.references v is)));
           words = subst (λ f. (v : ℕ) → IsVariable g.core f.number v true → registers (parameter v) < 2 ^ 32) same k.words;
-          temporaries = subst (λ f. (t : ℕ) → t < f.routine.temporaries → IsWordOf (registers (f.frame.bank.temporaries + t)) (number_in (temps t))) same k.temporaries;
+          temporaries = subst (λ f. (t : ℕ) → t < f.routine.temporaries → IsWordOf (registers (f.frame.bank.temporaries + t)) (temps t)) same k.temporaries;
         }
 
-    pub activation_moved : (d : ℕ) → SameFloors old new d → SameHeld d → SameBound d → (temps : ℕ → Value) (routine : ℕ) (a : Activation) (limit room charged : ℕ) → ActivationStands g old d values bound temps routine a limit room charged → ActivationStands g new d new_values new_bound temps routine a limit room charged
+    pub activation_moved : (d : ℕ) → SameFloors old new d → SameHeld d → SameBound d → (temps : ℕ → ℤ) (routine : ℕ) (a : Activation) (limit room charged : ℕ) → ActivationStands g old d values bound temps routine a limit room charged → ActivationStands g new d new_values new_bound temps routine a limit room charged
     activation_moved d floors held places temps routine a limit room charged s =
         let same : old d ≡ new d = sym (floors d (omega arith)) in
         record {
@@ -140,7 +140,7 @@ module _ (g : Setting) (old new : ℕ → Floor) where
           activation_moved (length cs) deeper.floors (λ v r is home. u.variables (length cs) v r (omega arith) is home) (λ v is. u.places (length cs) v (omega arith) is) c.temps c.routine a below spare under activation,
           callers_moved cs others c.routine (a.registers result_address.0) below spare under deeper callers,
         )
-    callers_moved (c ∷ cs) (l ∷ ls) number address limit room charged u (inl (below, under, spare, declared, low, charge, at_, more, frames, receiver, to, typed, result, nameless, made, position, activation, callers)) =
+    callers_moved (c ∷ cs) (l ∷ ls) number address limit room charged u (inl (below, under, spare, declared, low, charge, at_, more, frames, receiver, to, typed, result, waiting, made, position, activation, callers)) =
         let deeper = shallower (suc (length cs)) (length cs) (omega arith) u in
         let same : old (length cs) ≡ new (length cs) = sym (u.floors (length cs) (omega arith)) in
         inl (
@@ -157,7 +157,7 @@ module _ (g : Setting) (old new : ℕ → Floor) where
           subst (λ f. l.to ≡ Rattle.op_expand.specs.Calls.receiver_of f.frame declared (Rattle.op_compute.specs.Bank.scratch_of f.frame.bank 0)) same to,
           typed,
           result_moved (length cs) deeper.floors declared c.receiver l address result,
-          nameless,
+          waiting,
           made,
           subst (λ f. Position g f c.work l.activation.now) same position,
           activation_moved (length cs) deeper.floors (λ v r is home. u.variables (length cs) v r (omega arith) is home) (λ v is. u.places (length cs) v (omega arith) is) c.temps c.routine l.activation below spare under activation,

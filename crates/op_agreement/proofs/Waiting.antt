@@ -63,7 +63,7 @@ module _ (g : Setting) (fit : IsFitting g) (m : MirState) (l : State) (floors : 
       let scratch = fits.scratch in
       let zeroth : b.registers 0 ≡ l.top.registers 0 = b.kept 0 (omega arith) in
       let same : SameVariables (here m floors) l.top.registers b.registers = λ r low. b.kept r (omega arith) in
-      let are : Temporaries (here m floors) m.world.temps b.registers = λ t low. subst (λ x. IsWordOf x (number_in (m.world.temps t))) (sym (b.kept ((here m floors).frame.bank.temporaries + t) (omega arith))) (a.kept.temporaries t low) in
+      let are : Temporaries (here m floors) m.world.temps b.registers = λ t low. subst (λ x. IsWordOf x (m.world.temps t)) (sym (b.kept ((here m floors).frame.bank.temporaries + t) (omega arith))) (a.kept.temporaries t low) in
       record {
         floor = a.floor;
         number = a.number;
@@ -77,7 +77,7 @@ module _ (g : Setting) (fit : IsFitting g) (m : MirState) (l : State) (floors : 
 
   -- With floors that are the same up to the present depth, and values that are, the caller and those below it stand as callers of the routine
   -- that begins, whose locals are those of its low code.
-  pub caller_waits : (new : ℕ → Floor) (values : Holder → Value) (bound : ℕ → ℕ → Place) → SameFloors floors new (length m.callers) → SameUpTo (length m.callers) m.world.memory values m.world.bound bound → (new (suc (length m.callers))).frame.locals ≡ (routine_of g.low (runtime + callee.0)).locals → CallersStand g new values bound (caller_of m (view_receiver call.receiver) (rest_above g m l floors (Call callee call) js next) ∷ m.callers) (record { activation = waiting; to = b.to; landing = None } ∷ l.callers) callee.0 b.result (l.limit + (routine_of g.low (runtime + callee.0)).locals) (l.room - space g.low g.placement (runtime + callee.0)) (m.charged + (managed g).charge callee.0)
+  pub caller_waits : (new : ℕ → Floor) (values : Holder → Value) (bound : ℕ → ℕ → Place) → SameFloors floors new (length m.callers) → SameUpTo (length m.callers) m.world.memory values m.world.bound bound → (new (suc (length m.callers))).frame.locals ≡ (routine_of g.low (runtime + callee.0)).locals → CallersStand g new values bound (caller_of (record m { work = rest_above g m l floors (Call callee call) js next }) (view_receiver call.receiver) ∷ m.callers) (record { activation = waiting; to = b.to; landing = None } ∷ l.callers) callee.0 b.result (l.limit + (routine_of g.low (runtime + callee.0)).locals) (l.room - space g.low g.placement (runtime + callee.0)) (m.charged + (managed g).charge callee.0)
   caller_waits new values bound same kept locals =
       let d = length m.callers in
       let a = next.stays.activation in
@@ -113,7 +113,7 @@ module _ (g : Setting) (fit : IsFitting g) (m : MirState) (l : State) (floors : 
         subst (λ (f : Floor). b.to ≡ receiver_of f.frame call.receiver (scratch_of f.frame.bank 0)) floor_same b.gets,
         next.fine.3.receives,
         goes,
-        s.plain.temps,
+        s.plain.waiting,
         s.plain.made,
         subst (λ f. Position g f (rest_above g m l floors (Call callee call) js next) rest) floor_same waiting_position,
         activation_moved g floors new m.world.memory values m.world.bound bound d same (λ v r is home. kept.variables d v (omega arith)) (λ v is. kept.places d v (omega arith)) m.world.temps m.routine waiting l.limit l.room m.charged waiting_stands,

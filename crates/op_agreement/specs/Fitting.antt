@@ -10,6 +10,7 @@ use Rattle.op_core.specs.declared.types.CoreType.TheVariants.{Integer}
 use Rattle.op_core.specs.declared.types.IntegerKind.TheVariants.{Signed8}
 use Rattle.op_expand.specs.Calls.{closing_number, finalizations, has_closing, runtime}
 use Rattle.op_expand.specs.Closing.{closing_routine}
+use Rattle.op_meaning.specs.Calls.{emptied_type}
 use Rattle.op_places.specs.Frames.{frame_of, parameters_of}
 use Rattle.op_expand.specs.Routines.{most_charge}
 use Rattle.op_low.specs.State.{routine_of, space}
@@ -26,12 +27,13 @@ use Rattle.op_rv.specs.declared.symbol.Symbol.TheVariants.{Global}
 use Rattle.op_agreement.specs.Settings.{Setting, Apart, FrameFits, HaveHomes, IsExpanded, due_address}
 use Rattle.op_agreement.specs.Typed.{IsGlobal, AreFine, HasResult, parameter_rows}
 
--- Values are arranged by their types, each parameter has its row and each result its variable, errors end the program, no stack has more than 2^26
--- bytes, and no routine more than 64 parameters.
+-- Values are arranged by their types, each parameter has its row and each result its variable, errors end the program, nothing is emptied before a
+-- call, no stack has more than 2^26 bytes, and no routine more than 64 parameters.
 pub record IsArrangedProgram (g : Setting) : Type 0 where
   pub extents : KeepsExtents g.core
   pub first_type : slice_get g.core.types 0 ≡ Some (Integer Signed8)
   pub exceptions : g.core.exceptions ≡ None
+  pub outs : (v : ℕ) → emptied_type g.core (slice_get g.core.variables v) ≡ None
   pub number : length g.mir.routines ≡ length g.core.routines
   pub parameters : (r : ℕ) → r < length g.core.routines → length (parameter_rows g.core r) ≡ parameters_of g.core r
   pub results : (r : ℕ) (of : TypeId) → result_of (slice_get g.core.routines r) ≡ Some of → HasResult g.core r of

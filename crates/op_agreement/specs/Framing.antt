@@ -13,7 +13,7 @@ use Rattle.op_mir.specs.declared.action.Action.TheVariants.{Constant, Load, Stor
 use Rattle.op_mir.specs.declared.action.Action.{Action}
 use Rattle.op_mir.specs.declared.code.Routine.{Routine}
 use Rattle.op_mir.specs.declared.ids.LocalId.{LocalId}
-use Rattle.op_mir.specs.declared.instruction.Given.TheVariants.{ByValue, ByReference, ByPlace, ByCopy}
+use Rattle.op_mir.specs.declared.instruction.Given.TheVariants.{ByValue, ByPlace, ByCopy}
 use Rattle.op_mir.specs.declared.instruction.Given.{Given}
 use Rattle.op_mir.specs.declared.instruction.Instruction.TheVariants.{Act, Call, Jump, When, Unless, Switch, Dispatch, MakeDue, Stop, Return}
 use Rattle.op_mir.specs.declared.instruction.Instruction.{Instruction}
@@ -47,7 +47,6 @@ MayBeNamed core r (Temporary of n) = IsSmall core of
 
 abbrev pub MayBeGiven : Core → (r : ℕ) → Given → Type 0
 MayBeGiven core r (ByValue kind t) = Unit {0}
-MayBeGiven core r (ByReference t) = Unit {0}
 MayBeGiven core r (ByPlace path) = MayBeNamed core r path.root
 MayBeGiven core r (ByCopy of path) = MayBeNamed core r path.root
 

@@ -10,11 +10,12 @@ use Rattle.op_low.specs.Machine.{entered}
 use Rattle.op_low.specs.State.{State, routine_of, space}
 use Rattle.op_low.specs.declared.ids.VirtualRegister.{VirtualRegister}
 use Rattle.op_low.specs.declared.instruction.Instruction.{Instruction as LowInstruction}
-use Rattle.op_meaning.specs.Calls.{Handed, a_value, a_place, all_handed}
+use Rattle.op_meaning.specs.Calls.{all_handed}
 use Rattle.op_meaning.specs.Costs.{given_bytes}
+use Rattle.op_meaning.specs.Frames.{Handed, a_value, a_place}
 use Rattle.op_meaning.specs.Numbers.{low_bits_of}
 use Rattle.op_meaning.specs.Shapes.{single, composite, is_reference, shape_of}
-use Rattle.op_meaning.specs.Values.{Place, Value, number, number_in}
+use Rattle.op_meaning.specs.Values.{Place, Value, number, number_in, reached}
 use Rattle.op_meaning.specs.World.{World, value_at}
 use Rattle.op_mir.specs.Machine.{MirState}
 use Rattle.op_mir.specs.View.{view_given, view_receiver}
@@ -66,7 +67,7 @@ begins_most g r call = 9 + 4 * length call.given + 2 * bytes_given g call + spac
 -- the stack has room for the charge, all arguments are handed over, and low code comes to where the routine begins
 pub record Begins (g : Setting) (m : MirState) (l : State) (floors : ℕ → Floor) (r : ℕ) (call : Operands) (rest : List LowInstruction) : Type 0 where
   pub given : List Handed
-  pub handed : all_handed m.world (map view_given call.given) ≡ Some given
+  pub handed : all_handed m.world (map view_given call.given) ≡ reached given
   pub charged : nat_lt g.stack (m.charged + (managed g).charge r) ≡ false
   pub registers : ℕ → ℕ
   pub kept : (x : ℕ) → x < (floors (length m.callers)).frame.bank.scratch → registers x ≡ l.top.registers x

@@ -28,7 +28,7 @@ use Rattle.op_mir.specs.declared.code.Block.{Block}
 use Rattle.op_mir.specs.declared.code.Mir.{Mir}
 use Rattle.op_mir.specs.declared.code.Routine.{Routine}
 use Rattle.op_mir.specs.declared.ids.LocalId.{LocalId}
-use Rattle.op_mir.specs.declared.instruction.Given.TheVariants.{ByValue, ByReference, ByPlace, ByCopy}
+use Rattle.op_mir.specs.declared.instruction.Given.TheVariants.{ByValue, ByPlace, ByCopy}
 use Rattle.op_mir.specs.declared.instruction.Given.{Given}
 use Rattle.op_mir.specs.declared.instruction.Instruction.TheVariants.{Act, Call, Jump, When, Unless, Switch, Dispatch, MakeDue, Stop, Return}
 use Rattle.op_mir.specs.declared.instruction.Instruction.{Instruction}
@@ -121,7 +121,6 @@ IsPlaced core r frame (Temporary of n) = IsRooted core r frame (Temporary of n)
 
 abbrev pub HasGiven : Core → (r : ℕ) → Frame → Given → Type 0
 HasGiven core r frame (ByValue kind t) = Unit {0}
-HasGiven core r frame (ByReference t) = Unit {0}
 HasGiven core r frame (ByPlace path) = IsPlaced core r frame path.root
 HasGiven core r frame (ByCopy of path) = IsRooted core r frame path.root
 

@@ -1,5 +1,5 @@
 -- When a state of low code stands for one of managed code.
-use Rattle.std.specs.Prelude.{◌≡◌, ◌<◌, ◌≤◌, ◌⊎◌, ℕ, zero, suc, ◌+◌, ◌-◌, ◌^◌, ◌%◌, true, false, List, [], ◌∷◌, drop, length, map, Option, Some, None, slice_get}
+use Rattle.std.specs.Prelude.{◌≡◌, ◌<◌, ◌≤◌, ◌⊎◌, ℕ, zero, suc, ◌+◌, ◌-◌, ◌^◌, ◌%◌, true, false, List, [], ◌∷◌, drop, length, map, Option, Some, None, slice_get, ℤ}
 use Rattle.std.specs.List.{flat_map}
 use Rattle.op_compute.specs.Bank.{scratch_of}
 use Rattle.op_compute.specs.Meaning.{IsWordOf}
@@ -22,7 +22,7 @@ use Rattle.op_meaning.specs.Values.{Value, Holder, local, temporary, Place, numb
 use Rattle.op_meaning.specs.World.{Ending, Running as GoingOn, Ended as HasEnded}
 use Rattle.op_mir.specs.Code.{Instr, make_due, ret}
 use Rattle.op_mir.specs.Machine.{MirCaller, MirState}
-use Rattle.op_mir.specs.Plain.{IsPlainWorld, IsNameless}
+use Rattle.op_mir.specs.Plain.{IsPlainWorld}
 use Rattle.op_mir.specs.View.{routine_at, view_instruction, view_receiver}
 use Rattle.op_mir.specs.declared.instruction.Instruction.{Instruction}
 use Rattle.op_mir.specs.declared.instruction.Receiver.{Receiver as DeclaredReceiver}
@@ -57,15 +57,15 @@ pub record IsFloor (g : Setting) (f : Floor) : Type 0 where
 
 -- what registers have of an activation with so many below it: its variables that are kept in registers, the addresses of what its
 -- variable parameters stand for, and its temporaries that are one value
-pub record AreKept (g : Setting) (floors : ℕ → Floor) (d : ℕ) (values : Holder → Value) (bound : ℕ → ℕ → Place) (temps : ℕ → Value) (registers : ℕ → ℕ) : Type 0 where
+pub record AreKept (g : Setting) (floors : ℕ → Floor) (d : ℕ) (values : Holder → Value) (bound : ℕ → ℕ → Place) (temps : ℕ → ℤ) (registers : ℕ → ℕ) : Type 0 where
   pub variables : (v r : ℕ) → IsVariable g.core (floors d).number v false → home_at (floors d).frame.homes (record { 0 = v }) ≡ Held (record { 0 = r }) → IsWordOf (registers r) (number_in (values (local d v)))
   pub references : (v : ℕ) → IsVariable g.core (floors d).number v true → IsAt g floors d (bound d v) (type_of_local g.core (floors d).number v) (registers (parameter v))
   pub words : (v : ℕ) → IsVariable g.core (floors d).number v true → registers (parameter v) < 2 ^ 32
-  pub temporaries : (t : ℕ) → t < (floors d).routine.temporaries → IsWordOf (registers ((floors d).frame.bank.temporaries + t)) (number_in (temps t))
+  pub temporaries : (t : ℕ) → t < (floors d).routine.temporaries → IsWordOf (registers ((floors d).frame.bank.temporaries + t)) (temps t)
 
 -- An activation of managed code, with so many below it, and one of low code. Register 0 has the bytes of stack that are left, and there is
 -- room for them and for run-time routines.
-pub record ActivationStands (g : Setting) (floors : ℕ → Floor) (d : ℕ) (values : Holder → Value) (bound : ℕ → ℕ → Place) (temps : ℕ → Value) (routine : ℕ) (a : Activation) (limit room charged : ℕ) : Type 0 where
+pub record ActivationStands (g : Setting) (floors : ℕ → Floor) (d : ℕ) (values : Holder → Value) (bound : ℕ → ℕ → Place) (temps : ℕ → ℤ) (routine : ℕ) (a : Activation) (limit room charged : ℕ) : Type 0 where
   pub floor : IsFloor g (floors d)
   pub number : (floors d).number ≡ routine
   pub same : a.routine ≡ runtime + (floors d).number
@@ -90,7 +90,7 @@ pub record ClosingWaits (g : Setting) (c : MirCaller) (l : Caller) (a : Activati
   pub frames : c.frames ≡ closing status ∷ []
   pub receiver : c.receiver ≡ nowhere
   pub result : result_of (slice_get g.core.routines number) ≡ None
-  pub nameless : (t : ℕ) → IsNameless (c.temps t)
+  pub waiting : (t : ℕ) → c.waiting t ≡ None
   pub made : c.made ≡ []
   pub same : l.activation.routine ≡ closing_number g.core
   pub now : l.activation.now ≡ Jump (block_id 0) ∷ []
@@ -113,7 +113,7 @@ CallersStand g floors values bound (c ∷ cs) (l ∷ ls) number address limit ro
     × (l.to ≡ receiver_of (floors (length cs)).frame declared (scratch_of (floors (length cs)).frame.bank 0))
     × IsTypedReceiver g.core c.receiver (result_of (slice_get g.core.routines number))
     × ResultGoes g floors (length cs) declared c.receiver l address
-    × ((t : ℕ) → IsNameless (c.temps t)) × (c.made ≡ [])
+    × ((t : ℕ) → c.waiting t ≡ None) × (c.made ≡ [])
     × Position g (floors (length cs)) c.work l.activation.now
     × ActivationStands g floors (length cs) values bound c.temps c.routine l.activation below spare under
     × CallersStand g floors values bound cs ls c.routine (l.activation.registers result_address.0) below spare under)

@@ -17,7 +17,7 @@ use Rattle.op_expand.specs.Calls.{has_closing}
 use Rattle.op_places.specs.Frames.{parameters_of}
 use Rattle.op_meaning.specs.Actions.{Action, constant, load, store, copy, look, begin_with, pick, arithmetic, compare, negate, complement, invert, absolute, odd, upper, low_bits, check, neighbour, single, span, combine, contains, check_set, primitive}
 use Rattle.op_meaning.specs.Expressions.{result_of}
-use Rattle.op_meaning.specs.Items.{Given, by_value, by_reference, by_place, by_copy, Receiver, nowhere, to_temp, to_place}
+use Rattle.op_meaning.specs.Items.{Given, by_value, by_place, by_copy, Receiver, nowhere, to_temp, to_place}
 use Rattle.op_meaning.specs.Numbers.{fits_word}
 use Rattle.op_meaning.specs.Paths.{Root, in_global, in_local, through, in_temporary, Path, Step, field, element}
 use Rattle.op_meaning.specs.Primitives.{IsApplied, Operand, from_temp, literal_text}
@@ -110,7 +110,6 @@ IsTypedAction core r (primitive p operands to) = IsApplied IsTypedOperand p oper
 -- what a parameter is given, by its row
 abbrev pub IsTypedGiven : Core → ℕ → Given → Variable → Type 0
 IsTypedGiven core r (by_value kind t) p = (is_reference p.role ≡ false) × (shape_of core p.of ≡ single kind)
-IsTypedGiven core r (by_reference t) p = ⊥
 IsTypedGiven core r (by_place path) p = (is_reference p.role ≡ true) × PathTo core r path p.of
 IsTypedGiven core r (by_copy of path) p = (is_reference p.role ≡ false) × (p.of ≡ of) × (shape_of core of ≡ composite) × PathTo core r path of
 

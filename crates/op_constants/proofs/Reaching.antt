@@ -16,7 +16,7 @@ use Rattle.op_core.specs.declared.types.IntegerKind.TheVariants.{Signed8}
 use Rattle.op_meaning.specs.Numbers.{between}
 use Rattle.op_meaning.specs.Paths.{Step, field, element, place_from}
 use Rattle.op_meaning.specs.Shapes.{Shape, single, composite, of_chars, of_elements, of_instance, shape_by, parts_by, part_type, field_type}
-use Rattle.op_meaning.specs.Values.{Place, part_at}
+use Rattle.op_meaning.specs.Values.{Place, part_at, reached, failing}
 use Rattle.op_meaning.specs.World.{World, number_at}
 use Rattle.op_constants.specs.Lies.{Arrangement, in_parts, Leads, arrangement_by, arrangement_within, arrangement_of, part_offset}
 use Rattle.op_constants.specs.Offsets.{size_in, offset_behind, field_offset, fields_in, element_size, element_size_by}
@@ -40,8 +40,8 @@ not_both e = subst (λ x. elim x as (λ y. Type 0) [ true ↦ ⊥ | false ↦ Un
 index_low : (low high i : ℤ) → between low high i ≡ true → nat_abs (i -ℤ low) < nat_abs (high -ℤ low) + 1
 index_low low high i e = let (p, q) = and_parts (int_le low i) (int_le i high) e in grind (arith, ints)
 
-some_same : {p q : Place} → Some p ≡ Some q → q ≡ p
-some_same {p} {q} e = sym (ap (λ o. unwrap_or o p) e)
+same_place : {p q : Place} → reached p ≡ reached q → q ≡ p
+same_place {p} {q} e = cc
 
 none_some : {q : Place} → None ≡ Some q → ⊥
 none_some {q} e = subst (λ o. elim o as (λ y. Type 0) [ None ↦ Unit {0} | Some x ↦ ⊥ ]) e tt
@@ -114,8 +114,8 @@ module _ (core : Core) (keeps : KeepsExtents core) (first : slice_get core.types
   -- ---- all steps of a path
 
   -- where the steps lead, if no index fails: a list of parts, and so many bytes behind the beginning
-  pub steps_lead : (w : World) (of last : TypeId) (steps : List Step) (p q : Place) → of.0 < length core.types → Reaches core of steps last → place_from w p steps ≡ Some q → (ks : List ℕ) × (q ≡ record { holder = p.holder; path = p.path ++ ks }) × Leads (arrangement_of core of) ks (arrangement_of core last) (distance core w steps)
-  steps_lead w of last [] p q low reaches e = ([], some_same e ∙ ap (λ x. record { holder = p.holder; path = x }) (sym (append-nil p.path)), (ap (arrangement_of core) reaches, refl))
+  pub steps_lead : (w : World) (of last : TypeId) (steps : List Step) (p q : Place) → of.0 < length core.types → Reaches core of steps last → place_from w p steps ≡ reached q → (ks : List ℕ) × (q ≡ record { holder = p.holder; path = p.path ++ ks }) × Leads (arrangement_of core of) ks (arrangement_of core last) (distance core w steps)
+  steps_lead w of last [] p q low reaches e = ([], same_place e ∙ ap (λ x. record { holder = p.holder; path = x }) (sym (append-nil p.path)), (ap (arrangement_of core) reaches, refl))
   steps_lead w of last (field whole k ∷ steps) p q low (same, run, is, few, reaches) e =
       let before : (part_type core (type_at core of) k).0 < of.0 = subst (λ o. (part_type core o k).0 < of.0) (sym is) (field_before of run k is few) in
       let (ks, at, leads) = steps_lead w (part_type core (type_at core of) k) last steps (part_at k p) q (omega arith) reaches e in (
@@ -130,7 +130,7 @@ module _ (core : Core) (keeps : KeepsExtents core) (first : slice_get core.types
       n : ℕ
       n = nat_abs (number_at w t -ℤ least)
 
-      by : (each.0 < length core.types → place_from w (part_at n p) steps ≡ Some q → (ks : List ℕ) × (q ≡ record { holder = p.holder; path = (p.path ++ n ∷ []) ++ ks }) × Leads (arrangement_of core each) ks (arrangement_of core last) (distance core w steps)) → (b : Bool) → between least most (number_at w t) ≡ b → (if b then place_from w (part_at n p) steps else None) ≡ Some q → (ks : List ℕ) × (q ≡ record { holder = p.holder; path = p.path ++ ks }) × Leads (arrangement_of core of) ks (arrangement_of core last) (n * element_size core whole + distance core w steps)
+      by : (each.0 < length core.types → place_from w (part_at n p) steps ≡ reached q → (ks : List ℕ) × (q ≡ record { holder = p.holder; path = (p.path ++ n ∷ []) ++ ks }) × Leads (arrangement_of core each) ks (arrangement_of core last) (distance core w steps)) → (b : Bool) → between least most (number_at w t) ≡ b → (if b then place_from w (part_at n p) steps else failing 201) ≡ reached q → (ks : List ℕ) × (q ≡ record { holder = p.holder; path = p.path ++ ks }) × Leads (arrangement_of core of) ks (arrangement_of core last) (n * element_size core whole + distance core w steps)
       by others true test e =
           let before = (keeps.behind of.0 (Array index each) is).1 in
           let few : n < values_of (range_of (type_at core index)) = subst (λ r. n < values_of r) (sym range) (index_low least most (number_at w t) test) in
@@ -140,4 +140,4 @@ module _ (core : Core) (keeps : KeepsExtents core) (first : slice_get core.types
             subst (λ o. Leads (arrangement_of core of) (n ∷ ks) (arrangement_of core last) (n * element_size core o + distance core w steps)) (sym same)
                 (leads_on (arrangement_of core of) (arrangement_of core each) (arrangement_of core last) (n ∷ []) ks (n * element_size core of) (distance core w steps) (element_leads of index each n low is few) leads),
           )
-      by others false test e = absurd (none_some e)
+      by others false test e = absurd cc

@@ -8,7 +8,7 @@ use Rattle.op_core.specs.declared.types.CoreType.TheVariants.{Integer}
 use Rattle.op_core.specs.declared.types.IntegerKind.TheVariants.{Signed8}
 use Rattle.op_meaning.specs.Paths.{Step, place_from}
 use Rattle.op_meaning.specs.Shapes.{zero_of, first_of}
-use Rattle.op_meaning.specs.Values.{Value, Place, number_in, get, put}
+use Rattle.op_meaning.specs.Values.{Value, Place, number_in, get, put, reached}
 use Rattle.op_meaning.specs.World.{World}
 use Rattle.op_constants.specs.Arranged.{Arranged, IsSmall}
 use Rattle.op_constants.specs.FirstBytes.{first_bytes, first_number}
@@ -32,7 +32,7 @@ TypesArranged = (core : Core) → KeepsExtents core → (of : TypeId) → IsSmal
 abbrev pub PathsLead : Type 0
 PathsLead =
     (core : Core) → KeepsExtents core → slice_get core.types 0 ≡ Some (Integer Signed8)
-    → (w : World) (of last : TypeId) (steps : List Step) (p q : Place) → IsSmall core of → Reaches core of steps last → place_from w p steps ≡ Some q
+    → (w : World) (of last : TypeId) (steps : List Step) (p q : Place) → IsSmall core of → Reaches core of steps last → place_from w p steps ≡ reached q
     → (ks : List ℕ) × (q ≡ record { holder = p.holder; path = p.path ++ ks }) × Leads (arrangement_of core of) ks (arrangement_of core last) (distance core w steps)
 
 -- What variables begin with: zeros are the zero value of the type, and the bytes of a first value are that value.

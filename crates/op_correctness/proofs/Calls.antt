@@ -15,7 +15,7 @@ use Rattle.op_frames.proofs.PlacesFine.{most_each}
 use Rattle.op_frames.specs.Made.{Every}
 use Rattle.op_lower.specs.Temporaries.{in_call, in_given, in_receiver}
 use Rattle.op_meaning.specs.Expressions.{result_of}
-use Rattle.op_meaning.specs.Items.{Given as MeantGiven, by_value, by_reference, by_place, by_copy, Receiver as MeantReceiver, nowhere, to_temp, to_place}
+use Rattle.op_meaning.specs.Items.{Given as MeantGiven, by_value, by_place, by_copy, Receiver as MeantReceiver, nowhere, to_temp, to_place}
 use Rattle.op_meaning.specs.Paths.{in_temporary}
 use Rattle.op_meaning.specs.Shapes.{is_reference, shape_of, variables_of}
 use Rattle.op_mir.specs.Valid.{all_given_fit, copied_fits, given_fits, path_fits, receiver_fits}
@@ -23,7 +23,7 @@ use Rattle.op_mir.specs.View.{view_given, view_path, view_receiver}
 use Rattle.op_mir.specs.declared.code.Mir.{Mir}
 use Rattle.op_mir.specs.declared.code.Routine.{Routine}
 use Rattle.op_mir.specs.declared.instruction.Call.{Call as Operands}
-use Rattle.op_mir.specs.declared.instruction.Given.TheVariants.{ByValue, ByReference, ByPlace, ByCopy}
+use Rattle.op_mir.specs.declared.instruction.Given.TheVariants.{ByValue, ByPlace, ByCopy}
 use Rattle.op_mir.specs.declared.instruction.Given.{Given}
 use Rattle.op_mir.specs.declared.instruction.Receiver.TheVariants.{Nowhere, Temporary as ToTemporary, Place}
 use Rattle.op_mir.specs.declared.instruction.Receiver.{Receiver}
@@ -41,7 +41,6 @@ module _ (core : Core) (sound : IsSound core) (r : ℕ) where
   -- what a parameter is given, by the row of its variable
   given_is : (g : MeantGiven) (p : ParameterRow) (v : Variable) → v.role ≡ Parameter p.mode → v.of ≡ p.of → TypedGiven core r g p → IsTypedGiven core r g v
   given_is (by_value kind t) p v role of (single', own) = (ap is_reference role ∙ own, ap (shape_of core) of ∙ single')
-  given_is (by_reference t) p v role of h = absurd h
   given_is (by_place path) p v role of (to, refers) = (ap is_reference role ∙ refers, path_is core sound r path v.of (subst (TypedPath core r path) (sym of) to))
   given_is (by_copy type path) p v role of (same, to, whole, own) = (ap is_reference role ∙ own, of ∙ sym same, whole, path_is core sound r path type to)
 
@@ -77,7 +76,6 @@ module _ (core : Core) (sound : IsSound core) (mir : Mir) (r : ℕ) (x : Routine
   given_there : (g : Given) (p : ParameterRow) → TypedGiven core r (view_given g) p → in_given g ≤ x.temporaries → given_fits mir x g ≡ true
   unfolding given_fits copied_fits
   given_there (ByValue kind t) p typed low = has_it core sound mir r x types variables locals t low
-  given_there (ByReference t) p typed low = absurd typed
   given_there (ByPlace path) p (to, refers) low = path_there core sound mir r x types variables locals path p.of to low
   given_there (ByCopy of path) p (same, to, whole, own) low =
       and_from _ (path_fits mir x path) (type_there core sound mir r x types variables locals of to.small) (path_there core sound mir r x types variables locals path of to low)

@@ -49,7 +49,7 @@ use Rattle.op_correctness.specs.SimpleCore.{IsSimpleCore}
 -- ---- what the test gives
 
 pub simple_core : (core : Core) → IsPlainCore core → IsSimpleCore core
-simple_core core class = record { simple = class.simple; counted = class.counted; exceptions = class.exceptions; few = class.few }
+simple_core core class = record { simple = class.simple; counted = class.counted; exceptions = class.exceptions; outs = class.outs; few = class.few }
 
 pub core_charges : (core : Core) → IsPlainCore core → HaveCharges core
 core_charges core class r low = record { variables = class.charged r; parameters = class.parameters r }

@@ -64,6 +64,7 @@ module _ (g : Setting) (sound : IsSound g.core) (nesting : IsSoundNesting g.core
     extents = sound.extents;
     first_type = first_type g.core sound;
     exceptions = is.exceptions;
+    outs = is.outs;
     number = lowers.number;
     parameters = parameters_told;
     results = results_told;

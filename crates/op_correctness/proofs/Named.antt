@@ -32,7 +32,7 @@ use Rattle.op_frames.proofs.SoundSizes.{sizes_small}
 use Rattle.op_frames.specs.Made.{Every, IsCode}
 use Rattle.op_frames.specs.Named.{IsNamed, IsNamedAction, IsNamedArm, IsNamedCall, IsNamedGiven, IsNamedLabel, IsNamedOperand, IsNamedPath, IsNamedReceiver, IsNamedRoot, IsNamedStep, fields_offset}
 use Rattle.op_meaning.specs.Actions.{Action, constant, load, store, copy, look, begin_with, pick, arithmetic, compare, negate, complement, invert, absolute, odd, upper, low_bits, check, neighbour, single, span, combine, contains, check_set, primitive}
-use Rattle.op_meaning.specs.Items.{Given, by_value, by_reference, by_place, by_copy, Receiver, nowhere, to_temp, to_place}
+use Rattle.op_meaning.specs.Items.{Given, by_value, by_place, by_copy, Receiver, nowhere, to_temp, to_place}
 use Rattle.op_meaning.specs.Paths.{Path, Root, in_global, in_local, through, in_temporary, Step, field, element}
 use Rattle.op_meaning.specs.Primitives.{EachOperand, Operand, from_temp, literal_text}
 use Rattle.op_meaning.specs.Shapes.{part_type, shape_of}
@@ -175,7 +175,6 @@ module _ (core : Core) (sound : IsSound core) where
   -- what a parameter is given
   given_named : (r : ℕ) (g : Given) (p : Parameter) → IsTypedGiven core r g p → IsNamedGiven core g
   given_named r (by_value kind t) p h = tt
-  given_named r (by_reference t) p h = absurd h
   given_named r (by_place path) p (to, refers) = path_named r path p.of to
   given_named r (by_copy of path) p (same, to, whole, own) = path_named r path of to
 

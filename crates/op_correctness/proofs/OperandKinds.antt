@@ -33,7 +33,7 @@ use Rattle.op_mir.specs.declared.action.Operand.{Operand}
 use Rattle.op_mir.specs.declared.action.Operand.TheVariants.{Number, Literal}
 use Rattle.op_mir.specs.declared.instruction.Call.{Call as Operands}
 use Rattle.op_mir.specs.declared.instruction.Given.{Given}
-use Rattle.op_mir.specs.declared.instruction.Given.TheVariants.{ByValue, ByReference, ByPlace, ByCopy}
+use Rattle.op_mir.specs.declared.instruction.Given.TheVariants.{ByValue, ByPlace, ByCopy}
 use Rattle.op_mir.specs.declared.instruction.Receiver.{Receiver}
 use Rattle.op_mir.specs.declared.instruction.Receiver.TheVariants.{Nowhere, Temporary as ToTemporary, Place}
 use Rattle.op_mir.specs.declared.path.Path.{Path}
@@ -175,7 +175,6 @@ module _ (core : Core) where
       given_kinds : (g : Given) (p : ParameterRow) → TypedGiven core r (view_given g) p → is_given core variables g p ≡ true
       unfolding is_given
       given_kinds (ByValue kind t) p (is, own) = and_from (is_kept_as core p.of kind) _ (kept p.of kind is) (ap not own)
-      given_kinds (ByReference t) p typed = absurd typed
       given_kinds (ByPlace path) p (to, refers) = and_from (leads_to core variables path p.of) _ (leads path p.of to) refers
       given_kinds (ByCopy of path) p (same, to, parts, own) =
           and_from (is_same of p.of && is_composite (shape_of core of) && leads_to core variables path of) _

@@ -54,10 +54,10 @@ module _ (core : Core) (stack r : ℕ) (Q : Instr → Type 0) (blocks : ℕ) whe
     item_plain (halt t) typed made = tt
     item_plain (scoped t ts items) typed made = absurd made
     item_plain (attempt items cs) typed made = absurd made
-    item_plain (throw t) typed made = absurd made
+    item_plain (throw at) typed made = absurd made
     item_plain rethrow typed made = absurd made
     item_plain (construct c q given to) typed made = absurd made
-    item_plain (free takes_nil t) typed made = absurd made
+    item_plain (free takes_nil at) typed made = absurd made
 
     -- of a loop
     turns_plain : (l : Turns) → AreTypedTurns core r l → AreMadeTurns Q blocks l → ArePlainTurns (program_of core stack) l
@@ -91,6 +91,7 @@ module _ (core : Core) (stack : ℕ) where
     exceptions = is.exceptions;
     bodies = λ r. items_plain core stack r (IsWithin (2 * nodes core stack r) (2 * nodes core stack r + 1)) 0 (items_of (program_of core stack) r) (items_are_typed core stack sound nesting is.simple r) (items_made core stack r 0 (is.counted stack r));
     endings = endings;
+    outs = is.outs;
     units = units_plain core.units sound.units;
     globals = pending;
   }

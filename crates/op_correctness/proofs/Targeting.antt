@@ -45,10 +45,10 @@ module _ (Q : Instr → Type 0) (core : Core) (r n : ℕ) where
     item_targeted (halt t) made = tt
     item_targeted (scoped t ts items) made = absurd made
     item_targeted (attempt items cs) made = absurd made
-    item_targeted (throw t) made = absurd made
+    item_targeted (throw at) made = absurd made
     item_targeted rethrow made = absurd made
-    item_targeted (construct c r given to) made = absurd made
-    item_targeted (free takes_nil t) made = absurd made
+    item_targeted (construct c r given receiver) made = absurd made
+    item_targeted (free takes_nil at) made = absurd made
 
     turns_targeted : (l : Turns) → AreMadeTurns Q n l → AreMadeTurns (IsTargeted core r n) n l
     turns_targeted (turns head t ends between body) (branch, a, b, c) = (λ k some less. if_targeted core r n ends t k some less, targeted head a, targeted between b, targeted body c)

@@ -1,47 +1,27 @@
 -- How calls change the number of holders: an activation begins with no name but those that it is given, and takes with it what its variables
 -- and temporaries still hold.
-use Rattle.std.proofs.Common.{◌≡◌, ℕ, zero, suc, ◌+◌, ◌<◌, ◌≤◌, List, [], ◌∷◌, length, map, refl, sym, ap, ap₂, ◌∙◌, subst, arith}
+use Rattle.std.proofs.Common.{◌≡◌, ℕ, suc, ◌+◌, ◌<◌, ◌≤◌, List, [], ◌∷◌, length, map, refl, sym, ap, ap₂, ◌∙◌, subst, arith}
 use Rattle.std.proofs.lemmas.Bool.{eq-eqb, ne_eqb}
 use Rattle.std.proofs.lemmas.List.Sums.{sum_by-cons}
 use Rattle.std.specs.List.{sum_by}
-use Rattle.std.specs.Prelude.{false, ◌&&◌, nat_eq, nat_lt, slice_get, Some}
-use Rattle.op_core.specs.Sizes.{type_at}
-use Rattle.op_core.specs.declared.ids.ClassId.{ClassId}
+use Rattle.std.specs.Prelude.{false, ◌&&◌, nat_eq, nat_lt}
 use Rattle.op_core.specs.declared.ids.TypeId.{TypeId}
 use Rattle.op_core.specs.declared.ids.VariableId.{VariableId}
 use Rattle.op_core.specs.declared.program.Core.{Core}
 use Rattle.op_counts.proofs.HoldersCounted.{sum_one}
 use Rattle.op_counts.proofs.HoldersListed.{sum_globals, sum_variables, sum_temporaries, sum_callers, sum_objects, activation_summed, temporaries_summed, callers_summed, listed_summed, right_fails, local_once}
-use Rattle.op_counts.proofs.ValueCounts.{if_true, if_false, sum_same, sum_none, nil_nameless}
+use Rattle.op_counts.proofs.NamelessValues.{begins_nameless}
+use Rattle.op_counts.proofs.Receiving.{received_placed, received_failing}
+use Rattle.op_counts.proofs.ValueCounts.{if_true, if_false, sum_same, sum_none}
 use Rattle.op_counts.proofs.Writes.{once_written}
 use Rattle.op_counts.specs.Counting.{count_in, Leads, listed_activation, listed_object, listed, times, count_over, held, given_count}
-use Rattle.op_meaning.specs.Actions.{at_place}
-use Rattle.op_meaning.specs.Calls.{Handed, a_value, a_place, given_one, given_all, cleared, no_temps, caller_of, begun, result_in, gone_back, gone_back_raising}
-use Rattle.op_meaning.specs.Frames.{Program, StateOver, CallerOver, Rules}
+use Rattle.op_meaning.specs.Calls.{given_one, given_all, cleared, no_temps, none_waiting, caller_of, begun, result_in, gone_back, gone_back_raising}
+use Rattle.op_meaning.specs.Frames.{Program, StateOver, CallerOver, Rules, Handed, a_value, a_place}
 use Rattle.op_meaning.specs.Items.{Receiver, to_temp, to_place}
 use Rattle.op_meaning.specs.Paths.{Path, place_of}
-use Rattle.op_meaning.specs.Shapes.{field_type, fields_of_class, zero_instance, variables_of, type_of_local, zero_of, zero_within, zero_by, parts_by, part_type, shape_of, Shape, single, composite, of_chars, of_elements, of_instance}
-use Rattle.op_meaning.specs.Values.{Holder, global, local, temporary, object, Place, all_of}
+use Rattle.op_meaning.specs.Shapes.{variables_of, type_of_local, zero_of}
+use Rattle.op_meaning.specs.Values.{Holder, global, local, temporary, object, Place, reached, failing, all_of}
 use Rattle.op_meaning.specs.World.{World, Object, gone, chars, buffer, elements, fields, Construction, Live, Destruction, Dead, Temporary, value_at, with_value}
-
--- ---- what variables begin with holds nothing
-
-zero_nameless : (n : ℕ) (core : Core) (y : ℕ) (of : TypeId) → count_in y (zero_within n core of) ≡ 0
-zero_nameless zero core y of = refl
-zero_nameless (suc n) core y of = by (λ to. zero_nameless n core y to) (shape_of core of)
-  where
-    by : ((to : TypeId) → count_in y (zero_within n core to) ≡ 0) → (shape : Shape) → count_in y (zero_by (zero_within n core) core (type_at core of) shape) ≡ 0
-    by inner (single kind) = refl
-    by inner composite = sum_none (parts_by core (type_at core of)) _ (λ k less. inner (part_type core (type_at core of) k))
-    by inner of_chars = refl
-    by inner of_elements = refl
-    by inner (of_instance holds) = nil_nameless y holds
-
-pub begins_nameless : (core : Core) (y : ℕ) (of : TypeId) → count_in y (zero_of core of) ≡ 0
-begins_nameless core y of = zero_nameless (suc of.0) core y of
-
-pub instance_begins_nameless : (core : Core) (y : ℕ) (c : ClassId) → count_in y (zero_instance core c) ≡ 0
-instance_begins_nameless core y c = sum_none (length (fields_of_class core c)) _ (λ k less. begins_nameless core y (field_type (slice_get (fields_of_class core c) k)))
 
 -- ---- sums that agree below a depth
 
@@ -117,15 +97,15 @@ made_stays d k (a_place q ∷ given) w = made_stays d (suc k) given (given_one d
 -- ---- an activation begins
 
 -- An activation begins, where the stack has room for it: what it is given is added, and nothing else.
-pub begun_counted : {Work Counts : Type 0} (rules : Rules Work Counts) (r : ℕ) (receiver : Receiver) (work : Work) (given : List Handed) (s : StateOver Work Counts) (y : ℕ)
+pub begun_counted : {Work Counts : Type 0} (rules : Rules Work Counts) (r : ℕ) (receiver : Receiver) (given : List Handed) (s : StateOver Work Counts) (y : ℕ)
     → nat_lt rules.program.stack (s.charged + rules.program.charge r) ≡ false → s.world.depth ≡ length s.callers → length given ≤ (variables_of rules.program.core r).count
-    → held rules.program.core (begun rules r receiver work given s) y ≡ held rules.program.core s y + given_count y given
-begun_counted rules r receiver work given s y room deep fits =
+    → held rules.program.core (begun rules r receiver given s) y ≡ held rules.program.core s y + given_count y given
+begun_counted rules r receiver given s y room deep fits =
     let core = rules.program.core in
     let w = s.world in
     let d = suc w.depth in
-    let w1 : World = record w { temps = no_temps; made = []; depth = d; memory = cleared core r d w.memory } in
-    let c = caller_of s receiver work in
+    let w1 : World = record w { temps = no_temps; waiting = none_waiting; made = []; depth = d; memory = cleared core r d w.memory } in
+    let c = caller_of s receiver in
     let t = record s { charged = s.charged + rules.program.charge r; world = given_all d 0 given w1; routine = r; work = rules.body r; frames = []; callers = c ∷ s.callers } in
     let hs = listed core t in
     let depth : d ≡ length t.callers = ap suc deep in
@@ -163,18 +143,21 @@ module _ {Work Counts : Type 0} (p : Program) (c : CallerOver Work) (cs : List (
       let own : sum_by f (listed_activation p.core d s.routine s.world.made) ≡ sum_variables f p.core d s.routine + sum_temporaries f d s.world.made = activation_summed f p.core d s.routine s.world.made in
       omega arith
 
-  -- A result that goes to a temporary without a type is a number, or a reference that holds nothing: no holder comes with it.
+  -- A result that goes to a temporary is a number: no holder comes with it.
   pub result_kept : (t : ℕ) → c.receiver ≡ to_temp t → held p.core (gone_back p c cs s) y ≡ held p.core (gone_back_raising p c cs s) y
   result_kept t is = ap (λ x. held p.core (gone_back p (record c { receiver = x }) cs s) y) is
 
   -- A result that goes to a place is counted there, in place of what stood there.
-  pub result_placed : (of : TypeId) (path : Path) (q : Place) → c.receiver ≡ to_place of path → place_of (gone_back_raising p c cs s).world path ≡ Some q
+  pub result_placed : (of : TypeId) (path : Path) (q : Place) → c.receiver ≡ to_place of path → place_of (gone_back_raising p c cs s).world path ≡ reached q
       → times q.holder (listed p.core (gone_back_raising p c cs s)) ≡ 1 → Leads q.path (s.world.memory q.holder)
       → held p.core (gone_back p c cs s) y + count_in y (value_at s.world q) ≡ held p.core (gone_back_raising p c cs s) y + count_in y (result_in p s.routine s.world)
   result_placed of path q is found once leads =
-      let t = gone_back_raising p c cs s in
-      let v = result_in p s.routine s.world in
-      let whole : held p.core (gone_back p c cs s) y ≡ held p.core (gone_back p (record c { receiver = to_place of path }) cs s) y = ap (λ x. held p.core (gone_back p (record c { receiver = x }) cs s) y) is in
-      let there : held p.core (gone_back p (record c { receiver = to_place of path }) cs s) y ≡ held p.core (record t { world = with_value q v t.world }) y = ap (λ o. held p.core (record t { world = at_place p.core o (λ q'. with_value q' v t.world) t.world }) y) found in
-      let all : held p.core (record t { world = with_value q v t.world }) y + count_in y (value_at t.world q) ≡ held p.core t y + count_in y v = once_written t.world y q v (listed p.core t) once leads in
-      omega arith
+      ap (λ x. held p.core (gone_back p (record c { receiver = x }) cs s) y + count_in y (value_at s.world q)) is
+      ∙ received_placed p (gone_back_raising p c cs s) (result_in p s.routine s.world) y of path q found once leads
+
+  -- Where an error is met on the way there, no holder comes.
+  pub result_failing : (of : TypeId) (path : Path) (error : ℕ) → c.receiver ≡ to_place of path → place_of (gone_back_raising p c cs s).world path ≡ failing error
+      → held p.core (gone_back p c cs s) y ≡ held p.core (gone_back_raising p c cs s) y
+  result_failing of path error is met =
+      ap (λ x. held p.core (gone_back p (record c { receiver = x }) cs s) y) is
+      ∙ received_failing p (gone_back_raising p c cs s) (result_in p s.routine s.world) y of path error met

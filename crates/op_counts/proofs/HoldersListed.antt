@@ -1,17 +1,18 @@
 -- Which holders a state lists, and that it lists each of them once: its globals, the variables and temporaries of its activations, and its
 -- objects.
 use Rattle.std.proofs.Common.{◌≡◌, ℕ, suc, ◌+◌, ◌<◌, ◌≤◌, List, [], ◌∷◌, ◌++◌, length, map, refl, sym, ap, ap₂, ◌∙◌, arith, length-append}
-use Rattle.std.proofs.lemmas.Bool.{eqb-true, eq-eqb, ne_eqb, and_left, and_from, and_parts}
+use Rattle.std.proofs.lemmas.Bool.{eqb-true, ne_eqb, and_left, and_from, and_parts}
 use Rattle.std.proofs.lemmas.List.Sums.{sum_by-append, sum_by-cons}
 use Rattle.std.specs.List.{count_by, sum_by}
 use Rattle.std.specs.Prelude.{Bool, true, false, ◌&&◌, cond, nat_eq}
+use Rattle.op_base.proofs.Tests.{eqb-itself}
 use Rattle.op_core.specs.Types.{is_same}
 use Rattle.op_core.specs.declared.ids.TypeId.{TypeId}
 use Rattle.op_core.specs.declared.ids.VariableId.{VariableId}
 use Rattle.op_core.specs.declared.program.Core.{Core}
 use Rattle.op_counts.proofs.HoldersCounted.{sum_each, sum_one}
 use Rattle.op_counts.proofs.ValueCounts.{sum_same, sum_none, sum_changed}
-use Rattle.op_counts.specs.Counting.{sum_below, listed_variables, listed_temporaries, listed_activation, listed_callers, listed_object, listed, times}
+use Rattle.op_counts.specs.Counting.{sum_below, listed_variables, listed_temporaries, listed_activation, listed_callers, listed_object, listed, IsListed, times}
 use Rattle.op_meaning.specs.Frames.{StateOver, CallerOver}
 use Rattle.op_meaning.specs.Holding.{each}
 use Rattle.op_meaning.specs.Losing.{same_temporary}
@@ -89,14 +90,11 @@ same_is (object v) (global u) e = absurd cc
 same_is (object v) (local d u) e = absurd cc
 same_is (object v) (temporary d of n) e = absurd cc
 
-same_number : (n : ℕ) → nat_eq n n ≡ true
-same_number n = eq-eqb n n refl
-
 pub same_self : (h : Holder) → same_holder h h ≡ true
-same_self (global v) = same_number v
-same_self (local d v) = and_from (nat_eq d d) (nat_eq v v) (same_number d) (same_number v)
-same_self (temporary d of n) = and_from (nat_eq d d && is_same of of) (nat_eq n n) (and_from (nat_eq d d) (is_same of of) (same_number d) (same_number of.0)) (same_number n)
-same_self (object n) = same_number n
+same_self (global v) = eqb-itself v
+same_self (local d v) = and_from (nat_eq d d) (nat_eq v v) (eqb-itself d) (eqb-itself v)
+same_self (temporary d of n) = and_from (nat_eq d d && is_same of of) (nat_eq n n) (and_from (nat_eq d d) (is_same of of) (eqb-itself d) (eqb-itself of.0)) (eqb-itself n)
+same_self (object n) = eqb-itself n
 
 -- 1 where it is this holder
 abbrev pub is_it : Holder → Holder → ℕ
@@ -258,7 +256,7 @@ module _ {Work Counts : Type 0} (core : Core) (s : StateOver Work Counts) where
           let d = length s.callers in
           let h = temporary d t.of t.n in
           let first : sum_temporaries (is_it h) d (u ∷ made) ≡ sum_temporaries (is_it h) d made + is_it h (temporary d u.of u.n) = temporaries_summed (is_it h) d u made in
-          let here : is_it h (temporary d u.of u.n) ≡ cond (same_temporary u t) 1 0 = there (nat_eq d d) (is_same u.of t.of) (nat_eq u.n t.n) (same_number d) in
+          let here : is_it h (temporary d u.of u.n) ≡ cond (same_temporary u t) 1 0 = there (nat_eq d d) (is_same u.of t.of) (nat_eq u.n t.n) (eqb-itself d) in
           let rest : sum_temporaries (is_it h) d made ≡ count_by (λ x. same_temporary x t) made = among made in
           let last : count_by (λ x. same_temporary x t) (u ∷ made) ≡ cond (same_temporary u t) 1 0 + count_by (λ x. same_temporary x t) made = sum_by-cons (λ x. cond (same_temporary x t) 1 0) u made in
           omega arith
@@ -284,7 +282,7 @@ module _ {Work Counts : Type 0} (core : Core) (s : StateOver Work Counts) where
       omega arith
 
   -- an array, or an instance that is not dead
-  pub object_once : (n : ℕ) → n < s.world.next → listed_object n (s.world.objects n) ≡ object n ∷ [] → times (object n) (listed core s) ≡ 1
+  pub object_once : (n : ℕ) → n < s.world.next → IsListed s.world n → times (object n) (listed core s) ≡ 1
   object_once n less stands = object_times n less ∙ ap (times (object n)) stands ∙ sum_one (is_it (object n)) (object n) ∙ is_itself (object n)
 
   -- a name that was not given yet has no object

@@ -1,7 +1,13 @@
 pub mod Activations
+pub mod Failing
 pub mod FittingValues
+pub mod Framing
 pub mod HoldersCounted
 pub mod HoldersListed
+pub mod Making
+pub mod NamelessValues
+pub mod Receiving
+pub mod UnmanagedValues
 pub mod ValueCounts
 pub mod Walks
 pub mod Writes

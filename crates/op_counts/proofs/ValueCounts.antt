@@ -1,9 +1,9 @@
 -- How often a name stands in a value: what is written at a path is added, and what stood there taken away.
-use Rattle.std.proofs.Common.{◌≡◌, ℕ, zero, suc, ◌+◌, ◌<◌, ◌≤◌, List, [], ◌∷◌, length, refl, sym, ap, ap₂, ◌∙◌, subst, arith, length-append, inl, inr}
+use Rattle.std.proofs.Common.{◌≡◌, ℕ, zero, suc, ◌+◌, ◌<◌, List, [], ◌∷◌, length, refl, sym, ap, ap₂, ◌∙◌, subst, arith, length-append, inl, inr}
 use Rattle.std.proofs.lemmas.Bool.{eqb-true, eqb-false, eq-eqb, ne_eqb, cases_lt}
-use Rattle.std.specs.Prelude.{Bool, true, false, ◌||◌, None, nat_eq, if◌then◌else◌}
+use Rattle.std.specs.Prelude.{Bool, true, false, None, nat_eq, if◌then◌else◌}
 use Rattle.op_counts.specs.Counting.{sum_below, count_in, Leads, split_by, AreApart}
-use Rattle.op_meaning.specs.Holding.{names, each, any_below, places_in}
+use Rattle.op_meaning.specs.Holding.{names, each, places_in}
 use Rattle.op_meaning.specs.Values.{Value, number, parts, text, line, array, instance, Place, part_of, get, put, part_at}
 
 -- ---- tests
@@ -15,23 +15,6 @@ if_true false x y e = absurd cc
 pub if_false : {A : Type 0} (b : Bool) (x y : A) → b ≡ false → (if b then x else y) ≡ y
 if_false true x y e = absurd cc
 if_false false x y e = refl
-
--- what holds of none of so many
-pub any_false : (n : ℕ) (test : ℕ → Bool) → any_below n test ≡ false → (k : ℕ) → k < n → test k ≡ false
-unfolding any_below
-any_false zero test e k less = absurd (omega arith)
-any_false (suc n) test e k less = elim (cases_lt k n) [ inl under ↦ any_false n test (or_left (any_below n test) (test n) e) k under | inr over ↦ last k over less (or_right (any_below n test) (test n) e) ]
-  where
-    last : (k' : ℕ) → n ≤ k' → k' < suc n → test n ≡ false → test k' ≡ false
-    last k' over less' e' = let same : n ≡ k' = omega arith in subst (λ j. test j ≡ false) same e'
-
-    or_left : (a b : Bool) → (a || b) ≡ false → a ≡ false
-    or_left true b e = e
-    or_left false b e = refl
-
-    or_right : (a b : Bool) → (a || b) ≡ false → b ≡ false
-    or_right true b e = absurd cc
-    or_right false b e = e
 
 -- ---- sums of so many numbers
 
@@ -65,6 +48,14 @@ sum_changed (suc n) k f g less h = by (nat_eq n k) refl (λ less'. sum_changed n
         let rest : sum_below n f + g k ≡ sum_below n g + f k = again (lesser n k less (eqb-false n k e)) in
         let last : f n ≡ g n = h n e in
         omega arith
+
+-- the first one of the numbers in front
+pub sum_front : (n : ℕ) (f : ℕ → ℕ) → sum_below (suc n) f ≡ f 0 + sum_below n (λ j. f (suc j))
+unfolding sum_below
+sum_front zero f = omega arith
+sum_front (suc n) f =
+    let again : sum_below (suc n) f ≡ f 0 + sum_below n (λ j. f (suc j)) = sum_front n f in
+    omega arith
 
 -- ---- places in a value
 

@@ -1,56 +1,75 @@
 -- Walks: what ends by a walk holds names until its parts are ended, and the places that are walked over have all of them.
-use Rattle.std.proofs.Common.{◌≡◌, ℕ, ◌+◌, List, [], ◌∷◌, ◌++◌, refl, sym, ap, ◌∙◌}
-use Rattle.std.specs.Prelude.{Bool, true, false, nat_lt, Option, if◌then◌else◌}
-use Rattle.op_counts.proofs.HoldersCounted.{sum_each, sum_one}
-use Rattle.op_counts.proofs.ValueCounts.{if_false, sum_same, sum_none, any_false, nil_nameless}
-use Rattle.op_counts.specs.Counting.{count_in, held, count_at}
-use Rattle.op_meaning.specs.Frames.{Program, StateOver, Rules, a_place, Frame, walk, frame_charge, pushed}
-use Rattle.op_meaning.specs.Losing.{is_managed_value, walk_over, ends_value, ends_place}
-use Rattle.op_meaning.specs.Values.{Value, number, parts, text, line, array, instance, Place, get, part_of, part_at, emptied}
-use Rattle.op_meaning.specs.World.{World, value_at}
+use Rattle.std.proofs.Common.{◌≡◌, ℕ, zero, suc, ◌+◌, ◌<◌, List, [], ◌∷◌, ◌++◌, length, refl, sym, ap, ◌∙◌, arith}
+use Rattle.std.proofs.lemmas.List.Sums.{sum_by-cons}
+use Rattle.std.specs.Prelude.{Bool, true, false, slice_get, if◌then◌else◌}
+use Rattle.op_core.specs.Sizes.{KeepsExtents, type_at}
+use Rattle.op_core.specs.declared.ids.ClassId.{ClassId}
+use Rattle.op_core.specs.declared.ids.TypeId.{TypeId}
+use Rattle.op_core.specs.declared.program.Core.{Core}
+use Rattle.op_counts.proofs.FittingValues.{parts_fit}
+use Rattle.op_counts.proofs.UnmanagedValues.{unmanaged_nameless}
+use Rattle.op_counts.proofs.ValueCounts.{sum_same, sum_front}
+use Rattle.op_counts.specs.Counting.{sum_below, count_in, held, count_at}
+use Rattle.op_counts.specs.Fitting.{HasParts, Fits, FitsObject}
+use Rattle.op_meaning.specs.Frames.{StateOver, Rules}
+use Rattle.op_meaning.specs.Losing.{ends_place}
+use Rattle.op_meaning.specs.Shapes.{composite, shape_of, is_managed, parts_by, part_type, field_type, fields_of_class}
+use Rattle.op_meaning.specs.Spots.{spots_from, spots_of, spots_of_elements, spots_of_instance}
+use Rattle.op_meaning.specs.Values.{Value, Place, Spot, object, all_of, get, part_of, part_at}
+use Rattle.op_meaning.specs.World.{World, elements, fields, Phase, value_at}
 
--- ---- values without names
-
--- a value of a type that is not managed
-pub unmanaged_nameless : (y : ℕ) (v : Value) → is_managed_value v ≡ false → count_in y v ≡ 0
-unmanaged_nameless y (number n) e = refl
-unmanaged_nameless y (parts count part) e = sum_none count _ (λ k less. unmanaged_nameless y (part k) (any_false count (λ j. is_managed_value (part j)) e k less))
-unmanaged_nameless y (text t) e = absurd cc
-unmanaged_nameless y (line n) e = absurd cc
-unmanaged_nameless y (array n) e = absurd cc
-unmanaged_nameless y (instance true n) e = absurd cc
-unmanaged_nameless y (instance false n) e = refl
-
--- A value that is ended holds nothing.
-pub emptied_nameless : (y : ℕ) (v : Value) → count_in y (emptied v) ≡ 0
-emptied_nameless y (number n) = refl
-emptied_nameless y (parts count part) = sum_none count _ (λ k less. emptied_nameless y (part k))
-emptied_nameless y (text t) = refl
-emptied_nameless y (line n) = refl
-emptied_nameless y (array n) = refl
-emptied_nameless y (instance holds n) = nil_nameless y holds
-
--- ---- a walk begins
+-- ---- the places of parts
 
 get_last : (path : List ℕ) (k : ℕ) (v : Value) → get (path ++ k ∷ []) v ≡ part_of k (get path v)
 get_last [] k v = refl
 get_last (j ∷ path) k v = get_last path k (part_of j v)
 
-one_place : (w : World) (y : ℕ) (q : Place) (k : ℕ) (v : Value) (b : Bool) → is_managed_value v ≡ b → count_in y (value_at w (part_at k q)) ≡ count_in y v → count_at w y (if b then part_at k q ∷ [] else []) ≡ count_in y v
-one_place w y q k v true e same = sum_one (λ p. count_in y (value_at w p)) (part_at k q) ∙ same
-one_place w y q k v false e same = sym (unmanaged_nameless y v e)
+module _ (w : World) (y : ℕ) where
+  one_spot : (managed : Bool) (q : Spot) (spots : List Spot) → (managed ≡ false → count_in y (value_at w q.at) ≡ 0)
+      → count_at w y (if managed then q ∷ spots else spots) ≡ count_in y (value_at w q.at) + count_at w y spots
+  one_spot true q spots none = sum_by-cons (λ p. count_in y (value_at w p.at)) q spots
+  one_spot false q spots none = let not : count_in y (value_at w q.at) ≡ 0 = none refl in omega arith
 
--- The places that a walk goes over have every name of the value whose parts end.
-pub walk_counted : (w : World) (y : ℕ) (q : Place) (count : ℕ) (part : ℕ → Value) → value_at w q ≡ parts count part → count_at w y (walk_over q (parts count part)) ≡ count_in y (parts count part)
-walk_counted w y q count part is =
-    sum_each (λ p. count_in y (value_at w p)) count (λ k. if is_managed_value (part k) then part_at k q ∷ [] else [])
-    ∙ sum_same count _ _ (λ k less. one_place w y q k (part k) (is_managed_value (part k)) refl (ap (count_in y) (get_last q.path k (w.memory q.holder) ∙ ap (part_of k) is)))
+  -- from this part on, where those that are not managed hold nothing
+  spots_counted : (core : Core) (of : ℕ → TypeId) (q : Place) (count k : ℕ) → ((j : ℕ) → j < k + count → is_managed core (of j) ≡ false → count_in y (value_at w (part_at j q)) ≡ 0)
+      → count_at w y (spots_from core of q count k) ≡ sum_below count (λ j. count_in y (value_at w (part_at (k + j) q)))
+  unfolding spots_from sum_below
+  spots_counted core of q zero k none = refl
+  spots_counted core of q (suc count) k none =
+      let f = λ (j : ℕ). count_in y (value_at w (part_at j q)) in
+      let rest : count_at w y (spots_from core of q count (suc k)) ≡ sum_below count (λ j. f (suc k + j)) = spots_counted core of q count (suc k) (λ j less. none j (omega arith)) in
+      let first : count_at w y (spots_from core of q (suc count) k) ≡ f k + count_at w y (spots_from core of q count (suc k)) =
+      one_spot (is_managed core (of k)) (record { at = part_at k q; of = of k }) (spots_from core of q count (suc k)) (none k (omega arith)) in
+      let split : sum_below (suc count) (λ j. f (k + j)) ≡ f (k + 0) + sum_below count (λ j. f (k + suc j)) = sum_front count (λ j. f (k + j)) in
+      let here : f (k + 0) ≡ f k = let e : k + 0 ≡ k = omega arith in ap f e in
+      let same : sum_below count (λ j. f (k + suc j)) ≡ sum_below count (λ j. f (suc k + j)) = sum_same count _ _ (λ j less. let e : k + suc j ≡ suc k + j = omega arith in ap f e) in
+      omega arith
 
--- A walk or a destruction begins, where the stack has room for it: all holders stay as many.
-pub pushed_counted : {Work Counts : Type 0} (p : Program) (frame : Option ℕ → Frame) (s : StateOver Work Counts) (y : ℕ) → nat_lt p.stack (s.charged + frame_charge) ≡ false → held p.core (pushed p frame s) y ≡ held p.core s y
-pushed_counted p frame s y room = ap (λ x. held p.core x y) (if_false (nat_lt p.stack (s.charged + frame_charge)) _ _ room)
+-- ---- walks over what fits
+
+module _ (core : Core) (keeps : KeepsExtents core) (w : World) (y : ℕ) where
+  parts_counted : (of : ℕ → TypeId) (q : Place) (count : ℕ) → HasParts (Fits core) count of (value_at w q) → count_at w y (spots_from core of q count 0) ≡ count_in y (value_at w q)
+  parts_counted of q count fit =
+      let v = value_at w q in
+      let part : (k : ℕ) → count_in y (value_at w (part_at k q)) ≡ count_in y (part_of k v) = λ k. ap (count_in y) (get_last q.path k (w.memory q.holder)) in
+      spots_counted w y core of q count 0 (λ j less not. part j ∙ unmanaged_nameless core keeps y (of j) (part_of j v) (fit.1 j (omega (arith, less))) not)
+      ∙ sum_same count _ _ (λ j less. let e : 0 + j ≡ j = omega arith in ap (λ i. count_in y (value_at w (part_at i q))) e ∙ part j)
+      ∙ sym (ap (count_in y) fit.0)
+
+  -- The places that a walk over a record or an array goes to have every name of it.
+  pub walk_counted : (q : Place) (of : TypeId) → shape_of core of ≡ composite → Fits core of (value_at w q) → count_at w y (spots_of core of q) ≡ count_in y (value_at w q)
+  walk_counted q of is fits = parts_counted (part_type core (type_at core of)) q (parts_by core (type_at core of)) (parts_fit core of (value_at w q) is fits)
+
+  -- Those of a walk over a dynamic array have every name of its elements.
+  pub elements_walk_counted : (n : ℕ) (of : TypeId) (count : ℕ) → FitsObject core (elements of count) (w.memory (object n))
+      → count_at w y (spots_of_elements core of count (all_of (object n))) ≡ count_in y (w.memory (object n))
+  elements_walk_counted n of count fit = parts_counted (λ k. of) (all_of (object n)) count fit
+
+  -- Those of a destruction have every name of the fields of the instance.
+  pub instance_walk_counted : (i : ℕ) (c : ClassId) (phase : Phase) → FitsObject core (fields c phase) (w.memory (object i)) → count_at w y (spots_of_instance core c i) ≡ count_in y (w.memory (object i))
+  instance_walk_counted i c phase fit = parts_counted (λ k. field_type (slice_get (fields_of_class core c) k)) (all_of (object i)) (length (fields_of_class core c)) fit
 
 -- A record or an array with managed parts ends by a walk: it holds as much as before, until its parts are ended.
-pub walk_begun : {Work Counts : Type 0} (rules : Rules Work Counts) (q : Place) (count : ℕ) (part : ℕ → Value) (s : StateOver Work Counts) (y : ℕ) → value_at s.world q ≡ parts count part
-    → nat_lt rules.program.stack (s.charged + frame_charge) ≡ false → held rules.program.core (ends_place rules q s) y ≡ held rules.program.core s y
-walk_begun rules q count part s y is room = ap (λ v. held rules.program.core (ends_value rules q v s) y) is ∙ pushed_counted rules.program (walk (walk_over q (parts count part)) a_place) s y room
+pub walk_begun : {Work Counts : Type 0} (rules : Rules Work Counts) (q : Spot) (s : StateOver Work Counts) (y : ℕ) → shape_of rules.program.core q.of ≡ composite
+    → held rules.program.core (ends_place rules q s) y ≡ held rules.program.core s y
+walk_begun rules q s y is = rw is refl

@@ -1,7 +1,7 @@
 -- How a write changes the number of holders: at a place of each kind, at two places that are exchanged, at a temporary that is made or ends, and
 -- at an object that is made, becomes another one, or is gone.
-use Rattle.std.proofs.Common.{◌≡◌, ℕ, ◌+◌, ◌<◌, List, [], ◌∷◌, ◌++◌, length, refl, sym, ap, ap₂, ◌∙◌, arith}
-use Rattle.std.proofs.lemmas.Bool.{eq-eqb, ne_eqb}
+use Rattle.std.proofs.Common.{◌≡◌, ℕ, ◌+◌, ◌<◌, List, [], ◌∷◌, ◌++◌, length, refl, sym, ap, ap₂, ◌∙◌, subst, arith}
+use Rattle.std.proofs.lemmas.Bool.{eqb-true, eq-eqb, ne_eqb}
 use Rattle.std.proofs.lemmas.List.Sums.{sum_by-cons}
 use Rattle.std.specs.List.{count_by, sum_by}
 use Rattle.std.specs.Prelude.{Bool, true, false, cond, nat_eq, if◌then◌else◌}
@@ -10,7 +10,7 @@ use Rattle.op_core.specs.declared.program.Core.{Core}
 use Rattle.op_counts.proofs.HoldersCounted.{sum_one}
 use Rattle.op_counts.proofs.HoldersListed.{sum_temporaries, sum_objects, temporaries_summed, listed_summed, same_is, same_self, is_it, global_once, local_once, caller_local_once, temporary_times, object_once, object_never}
 use Rattle.op_counts.proofs.ValueCounts.{if_true, if_false, sum_same, sum_changed, put_counted, apart_stays, apart_leads}
-use Rattle.op_counts.specs.Counting.{sum_below, count_in, Leads, AreApart, listed_object, listed, times, count_over, held, IsCountedWrite}
+use Rattle.op_counts.specs.Counting.{sum_below, count_in, Leads, AreApart, listed_object, listed, IsListed, times, count_over, held, IsCountedWrite}
 use Rattle.op_meaning.specs.Frames.{StateOver, CallerOver, with_world}
 use Rattle.op_meaning.specs.Losing.{same_temporary}
 use Rattle.op_meaning.specs.Shapes.{variables_of}
@@ -98,7 +98,7 @@ module _ {Work Counts : Type 0} (core : Core) (s : StateOver Work Counts) (path 
   temporary_written t once leads = once_written s.world y (record { holder = temporary (length s.callers) t.of t.n; path = path }) new (listed core s) (temporary_times core s t ∙ once) leads
 
   -- A write at an array, or at an instance that is not dead.
-  pub object_written : (n : ℕ) → n < s.world.next → listed_object n (s.world.objects n) ≡ object n ∷ [] → Leads path (s.world.memory (object n)) → IsCountedWrite core s (record { holder = object n; path = path }) new y
+  pub object_written : (n : ℕ) → n < s.world.next → IsListed s.world n → Leads path (s.world.memory (object n)) → IsCountedWrite core s (record { holder = object n; path = path }) new y
   object_written n less stands leads = once_written s.world y (record { holder = object n; path = path }) new (listed core s) (object_once core s n less stands) leads
 
 -- ---- two places
@@ -188,6 +188,10 @@ object_summed f n o w less =
     let all : sum_below w.next g + g' n ≡ sum_below w.next g' + g n = sum_changed w.next n g g' less (λ m e. ap (λ x. sum_by f (listed_object m x)) (if_false (nat_eq m n) o (w.objects m) e)) in
     omega arith
 
+relisted : (n : ℕ) (o : Object) (objects : ℕ → Object) → listed_object n o ≡ listed_object n (objects n) → (m : ℕ) (b : Bool) → nat_eq m n ≡ b → listed_object m (if b then o else objects m) ≡ listed_object m (objects m)
+relisted n o objects same m true e = subst (λ k. listed_object k o ≡ listed_object k (objects k)) (sym (eqb-true m n e)) same
+relisted n o objects same m false e = refl
+
 module _ {Work Counts : Type 0} (core : Core) (s : StateOver Work Counts) (y : ℕ) where
   -- The next name is given to an object: nothing is added for a string, and for parts what their holder has.
   pub object_made : (o : Object) → held core (with_world (making o s.world) s) y ≡ held core s y + count_over s.world y (listed_object s.world.next o)
@@ -222,6 +226,16 @@ module _ {Work Counts : Type 0} (core : Core) (s : StateOver Work Counts) (y : �
       let up = listed_summed f core (with_world (with_object n o w) s) in
       let down = listed_summed f core s in
       let more : sum_objects f w.next (with_object n o w).objects + sum_by f (listed_object n (w.objects n)) ≡ sum_objects f w.next w.objects + sum_by f (listed_object n o) = object_summed f n o w less in
+      omega arith
+
+  -- Another object stands under a name, which is listed as the old one was, as an instance is in its next phase: all holders stay as many.
+  pub object_relisted : (n : ℕ) (o : Object) → listed_object n o ≡ listed_object n (s.world.objects n) → held core (with_world (with_object n o s.world) s) y ≡ held core s y
+  object_relisted n o same =
+      let w = s.world in
+      let f = λ (h : Holder). count_in y (w.memory h) in
+      let up = listed_summed f core (with_world (with_object n o w) s) in
+      let down = listed_summed f core s in
+      let more : sum_objects f w.next (with_object n o w).objects ≡ sum_objects f w.next w.objects = sum_same w.next _ _ (λ m less. ap (sum_by f) (relisted n o w.objects same m (nat_eq m n) refl)) in
       omega arith
 
   -- An object is gone: what it held is taken away.

@@ -4,11 +4,10 @@
 use Rattle.std.specs.List.{count_by, sum_by}
 use Rattle.std.specs.Prelude.{◌≡◌, ℕ, zero, suc, ◌+◌, ◌<◌, Bool, true, false, List, [], ◌∷◌, ◌++◌, length, map, nat_eq, if◌then◌else◌}
 use Rattle.op_core.specs.declared.program.Core.{Core}
-use Rattle.op_meaning.specs.Calls.{Handed, a_value, a_place}
-use Rattle.op_meaning.specs.Frames.{StateOver, CallerOver, with_world}
+use Rattle.op_meaning.specs.Frames.{StateOver, CallerOver, Handed, a_value, a_place, with_world}
 use Rattle.op_meaning.specs.Holding.{each, names}
 use Rattle.op_meaning.specs.Shapes.{variables_of}
-use Rattle.op_meaning.specs.Values.{Value, parts, Holder, global, local, temporary, object, Place, count_of, part_of, same_holder}
+use Rattle.op_meaning.specs.Values.{Value, parts, Holder, global, local, temporary, object, Place, Spot, count_of, part_of, same_holder}
 use Rattle.op_meaning.specs.World.{World, Object, elements, fields, Dead, Temporary, value_at, with_value}
 
 -- ---- in one value
@@ -67,6 +66,10 @@ listed core s =
     ++ listed_activation core (length s.callers) s.routine s.world.made
     ++ each s.world.next (λ n. listed_object n (s.world.objects n))
 
+-- under the name is an array, or an instance that is not dead
+abbrev pub IsListed : World → ℕ → Type 0
+IsListed w n = listed_object n (w.objects n) ≡ object n ∷ []
+
 -- how often a holder is listed
 abbrev pub times : Holder → List Holder → ℕ
 times h hs = count_by (λ g. same_holder g h) hs
@@ -91,5 +94,5 @@ given_count y (a_value v ∷ given) = count_in y v + given_count y given
 given_count y (a_place q ∷ given) = given_count y given
 
 -- how often it stands at places, as at those that are walked over
-abbrev pub count_at : World → ℕ → List Place → ℕ
-count_at w y qs = sum_by (λ q. count_in y (value_at w q)) qs
+abbrev pub count_at : World → ℕ → List Spot → ℕ
+count_at w y qs = sum_by (λ q. count_in y (value_at w q.at)) qs

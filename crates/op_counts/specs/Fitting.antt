@@ -1,17 +1,23 @@
 -- What it is for a value to have the shape of its type: a record has a part for each field, an array one for each index, and each part the
--- shape of its own type. (Free Pascal Reference Guide, "Types", "Record types" and "Arrays".)
-use Rattle.std.specs.Prelude.{◌≡◌, ℕ, zero, suc, ◌<◌, List, [], ◌∷◌, Option}
+-- shape of its own type. So have the elements of a dynamic array and the fields of an instance. (Free Pascal Reference Guide, "Types",
+-- "Record types", "Arrays" and "Classes".)
+use Rattle.std.specs.Prelude.{◌≡◌, ℕ, zero, suc, ◌<◌, List, [], ◌∷◌, length, Option, slice_get}
 use Rattle.op_core.specs.Sizes.{type_at}
 use Rattle.op_core.specs.declared.ids.TypeId.{TypeId}
 use Rattle.op_core.specs.declared.program.Core.{Core}
 use Rattle.op_core.specs.declared.types.CoreType.{CoreType}
-use Rattle.op_meaning.specs.Shapes.{Shape, single, composite, of_chars, of_elements, of_instance, shape_of, parts_by, part_type}
-use Rattle.op_meaning.specs.Values.{Value, number, parts, text, line, array, instance}
+use Rattle.op_meaning.specs.Shapes.{Shape, single, composite, of_chars, of_elements, of_instance, shape_of, parts_by, part_type, field_type, fields_of_class}
+use Rattle.op_meaning.specs.Values.{Value, number, parts, text, line, array, instance, part_of}
+use Rattle.op_meaning.specs.World.{Object, elements, fields}
+
+-- a value of so many parts, each as its type asks
+abbrev pub HasParts : (TypeId → Value → Type 0) → ℕ → (ℕ → TypeId) → Value → Type 0
+HasParts Inner n of v = (v ≡ parts n (λ k. part_of k v)) × ((k : ℕ) → k < n → Inner (of k) (part_of k v))
 
 -- a line that is being read stands where a string does
 abbrev pub HasShape : (TypeId → Value → Type 0) → Core → Option CoreType → Shape → Value → Type 0
 HasShape Inner core of (single kind) (number n) = Unit {0}
-HasShape Inner core of composite (parts count part) = (count ≡ parts_by core of) × ((k : ℕ) → k < count → Inner (part_type core of k) (part k))
+HasShape Inner core of composite v = HasParts Inner (parts_by core of) (part_type core of) v
 HasShape Inner core of of_chars (text t) = Unit {0}
 HasShape Inner core of of_chars (line n) = Unit {0}
 HasShape Inner core of of_elements (array n) = Unit {0}
@@ -25,6 +31,12 @@ FitsTo (suc n) core of v = HasShape (FitsTo n core) core (type_at core of) (shap
 
 abbrev pub Fits : Core → TypeId → Value → Type 0
 Fits core of v = (n : ℕ) → FitsTo n core of v
+
+-- what a name holds: the elements of an array, and the fields of an instance, its ancestors' first
+abbrev pub FitsObject : Core → Object → Value → Type 0
+FitsObject core (elements of count) v = HasParts (Fits core) count (λ k. of) v
+FitsObject core (fields c phase) v = HasParts (Fits core) (length (fields_of_class core c)) (λ k. field_type (slice_get (fields_of_class core c) k)) v
+FitsObject core o v = Unit {0}
 
 -- ---- paths by types
 

@@ -31,7 +31,7 @@ use Rattle.op_mir.specs.declared.code.Routine.{Routine}
 use Rattle.op_mir.specs.declared.ids.LocalId.{LocalId}
 use Rattle.op_mir.specs.declared.instruction.Call.{Call}
 use Rattle.op_mir.specs.declared.instruction.Given.{Given}
-use Rattle.op_mir.specs.declared.instruction.Given.TheVariants.{ByValue, ByReference, ByPlace, ByCopy}
+use Rattle.op_mir.specs.declared.instruction.Given.TheVariants.{ByValue, ByPlace, ByCopy}
 use Rattle.op_mir.specs.declared.instruction.Receiver.{Receiver}
 use Rattle.op_mir.specs.declared.instruction.Receiver.TheVariants.{Nowhere, Temporary, Place}
 use Rattle.op_mir.specs.declared.path.Root.TheVariants.{Local}
@@ -68,13 +68,11 @@ value_spot kind from free = at_scratch free
 
 abbrev pub given_code : Core → Frame → Given → VirtualRegister → List Instruction
 given_code core frame (ByValue kind t) free = value_code kind (register_of frame.bank t) free
-given_code core frame (ByReference t) free = []
 given_code core frame (ByPlace path) free = place_code core frame 0 path.root path.steps free
 given_code core frame (ByCopy of path) free = place_code core frame 0 path.root path.steps free
 
 abbrev pub given_spot : Core → Frame → Given → VirtualRegister → Spot
 given_spot core frame (ByValue kind t) free = value_spot kind (register_of frame.bank t) free
-given_spot core frame (ByReference t) free = at_register (register_of frame.bank t) free
 given_spot core frame (ByPlace path) free = place_of core frame 0 path.root path.steps free
 given_spot core frame (ByCopy of path) free = place_of core frame 0 path.root path.steps free
 

@@ -73,9 +73,6 @@ fn push_given(
         Given::ByValue { kind, temporary } => {
             push_value(code, *kind, frame.bank.temporary(*temporary)?, free)
         }
-        Given::ByReference { temporary } => {
-            Ok(at_register(frame.bank.temporary(*temporary)?, free))
-        }
         Given::ByPlace { path } => push_address_of(code, core, frame, path, free),
         Given::ByCopy { path, .. } => push_address_of(code, core, frame, path, free),
     }

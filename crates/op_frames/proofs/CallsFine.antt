@@ -34,7 +34,7 @@ use Rattle.op_mir.specs.declared.code.Routine.{Routine}
 use Rattle.op_mir.specs.declared.ids.LocalId.{LocalId}
 use Rattle.op_mir.specs.declared.instruction.Call.{Call}
 use Rattle.op_mir.specs.declared.instruction.Given.{Given}
-use Rattle.op_mir.specs.declared.instruction.Given.TheVariants.{ByValue, ByReference, ByPlace, ByCopy}
+use Rattle.op_mir.specs.declared.instruction.Given.TheVariants.{ByValue, ByPlace, ByCopy}
 use Rattle.op_mir.specs.declared.instruction.Receiver.{Receiver}
 use Rattle.op_mir.specs.declared.instruction.Receiver.TheVariants.{Nowhere, Temporary, Place}
 use Rattle.op_mir.specs.declared.path.Root.TheVariants.{Local}
@@ -86,13 +86,11 @@ module _ (m : Bounds) (core : Core) (frame : Frame) (n : ℕ) (is : IsFrame m co
 
   given_fine : (g : Given) (free : VirtualRegister) → IsNamedGiven core (view_given g) → in_given g ≤ n → free.0 + given_room (view_given g) ≤ m.registers → AreFine m (given_code core frame g free)
   given_fine (ByValue kind t) free named p room = value_fine kind _ free (register_below m core frame n is temporaries runtime t p) (omega (arith, room))
-  given_fine (ByReference t) free named p room = tt
   given_fine (ByPlace path) free named p room = path_fine m core frame n is temporaries runtime 0 path free named p room
   given_fine (ByCopy of path) free named p room = path_fine m core frame n is temporaries runtime 0 path free named p room
 
   given_there : (g : Given) (free : VirtualRegister) → IsNamedGiven core (view_given g) → in_given g ≤ n → free.0 + given_room (view_given g) ≤ m.registers → IsSpot m core frame n is temporaries (free.0 + given_room (view_given g)) (given_spot core frame g free)
   given_there (ByValue kind t) free named p room = value_there kind _ free (register_below m core frame n is temporaries runtime t p) (omega (arith, room))
-  given_there (ByReference t) free named p room = record { base = register_below m core frame n is temporaries runtime t p; free_is = omega arith }
   given_there (ByPlace path) free named p room = path_spot m core frame n is temporaries runtime 0 path free named p room
   given_there (ByCopy of path) free named p room = path_spot m core frame n is temporaries runtime 0 path free named p room
 

@@ -27,7 +27,7 @@ use Rattle.op_meaning.specs.Actions.{Action, constant, load, copy, look, arithme
 use Rattle.op_meaning.specs.Charge.{Weight, nodes_of, valued, expression_weight, root_weight, steps_weight, action_weight, conversion_weight, elements_weight, element_weight, arguments_weight, argument_weight, count_of, listed_values}
 use Rattle.op_meaning.specs.Every.{EveryNode, action_nodes, argument_nodes, arguments_nodes, element_nodes, elements_nodes, is_text, root_nodes, steps_nodes, text_after}
 use Rattle.op_meaning.specs.Expressions.{Here, past, past_whole, Env, Now, ready, at_path, a_text, Found, found, whole_path, path_of, loaded, own_by, own, then_acts, then_step, element_step, then_index_by, then_index, is_comparison, on_two, goes_on_at, second_here, two_by, is_boolean, prefix, converted_by, converted, moved, applied, measured, looked_at, applied_by, of_constant, receiver_by, receiver_of, result_of, given_by, AllPassed, OnePassed, find, make, find_root, find_steps, find_step, gather, gather_one, pass, pass_one, low_in, high_in}
-use Rattle.op_meaning.specs.Items.{Given, by_value, by_reference, by_place, by_copy, act, also, enter, Items, none, then_do, ◌&◌, only, acts}
+use Rattle.op_meaning.specs.Items.{Given, by_value, by_place, by_copy, act, also, enter, Items, none, then_do, ◌&◌, only, acts}
 use Rattle.op_meaning.specs.Paths.{Path, Step, field as part_field, element as part_element, with_step, root_of, path_to}
 use Rattle.op_meaning.specs.Shapes.{Shape, single, composite, of_chars, of_elements, of_instance, shape_of}
 use Rattle.op_mir.specs.Code.{Instr, do_act}
@@ -300,16 +300,16 @@ module _ (blocks top room : ℕ) where
   value_given : (s : Shape) (of : TypeId) (here : Here) (n : ℕ) → 1 ≤ n → here.temp < top → GivenBelow top (given_by s of here) × (given_room (given_by s of here) ≤ 2 * n)
   value_given (single kind) of here n some t = (t, omega (arith, some))
   value_given composite of here n some t = let one : 1 ≤ 2 * n = omega (arith, some) in (tt, one)
-  value_given of_chars of here n some t = (t, omega arith)
-  value_given of_elements of here n some t = (t, omega arith)
-  value_given (of_instance holds) of here n some t = (t, omega arith)
+  value_given of_chars of here n some t = let one : 1 ≤ 2 * n = omega (arith, some) in (tt, one)
+  value_given of_elements of here n some t = let one : 1 ≤ 2 * n = omega (arith, some) in (tt, one)
+  value_given (of_instance holds) of here n some t = let one : 1 ≤ 2 * n = omega (arith, some) in (tt, one)
 
   receiver_shape : (s : Shape) (of : TypeId) (here : Here) → here.temp < top → ReceiverBelow top (receiver_by s of here) × (receiver_room (receiver_by s of here) ≤ 1)
   receiver_shape (single kind) of here t = (t, omega arith)
   receiver_shape composite of here t = let one : 1 ≤ 1 = omega arith in (tt, one)
-  receiver_shape of_chars of here t = (t, omega arith)
-  receiver_shape of_elements of here t = (t, omega arith)
-  receiver_shape (of_instance holds) of here t = (t, omega arith)
+  receiver_shape of_chars of here t = let one : 1 ≤ 1 = omega arith in (tt, one)
+  receiver_shape of_elements of here t = let one : 1 ≤ 1 = omega arith in (tt, one)
+  receiver_shape (of_instance holds) of here t = let one : 1 ≤ 1 = omega arith in (tt, one)
 
   receiver_well : (core : Core) (result : Option TypeId) (here : Here) → here.temp < top → ReceiverBelow top (receiver_of core result here) × (receiver_room (receiver_of core result here) ≤ 1)
   receiver_well core None here t = (tt, omega arith)
@@ -433,8 +433,11 @@ module _ (blocks top room : ℕ) where
         let p = path_short (type_of e) here (here.temp + (find env here e).used) (nodes_of (expression_weight env.core e)) (find env here e).now some w.now in
         record { items = w.items; given = steps_more (here.temp + (find env here e).used) top (path_of (type_of e) here (find env here e).now).steps (omega (arith, w.used, t)) p.1; room_is = omega (arith, p.0); used = omega (arith, w.used) }
     one_well env here (array e) c t r =
+        let w = find_well env here e c t r in
         let some = expression_some env.core e c in
-        record { items = tt; given = omega (arith, some, t); room_is = omega arith; used = omega arith }
+        let p = path_short (type_of e) here (here.temp + (find env here e).used) (nodes_of (expression_weight env.core e)) (find env here e).now some w.now in
+        record { items = w.items; given = steps_more (here.temp + (find env here e).used) top (path_of (type_of e) here (find env here e).now).steps (omega (arith, w.used, t)) p.1; room_is = omega (arith, p.0); used = omega (arith, w.used) }
     one_well env here (listed of es) c t r =
         let e = listed_node env.core of (count_of es) in
-        record { items = tt; given = omega (arith, e, t); room_is = omega arith; used = omega arith }
+        let one : 1 ≤ 2 * nodes_of (argument_weight env.core (listed of es)) = omega (arith, e) in
+        record { items = tt; given = tt; room_is = one; used = omega arith }

@@ -50,7 +50,7 @@ use Rattle.op_mir.specs.declared.code.Routine.{Routine}
 use Rattle.op_mir.specs.declared.ids.BlockId.{BlockId}
 use Rattle.op_mir.specs.declared.ids.LocalId.{LocalId}
 use Rattle.op_mir.specs.declared.instruction.Given.{Given}
-use Rattle.op_mir.specs.declared.instruction.Given.TheVariants.{ByValue, ByReference, ByPlace, ByCopy}
+use Rattle.op_mir.specs.declared.instruction.Given.TheVariants.{ByValue, ByPlace, ByCopy}
 use Rattle.op_mir.specs.declared.instruction.Instruction.{Instruction}
 use Rattle.op_mir.specs.declared.instruction.Instruction.TheVariants.{Act, Call, Jump, When, Unless, Switch, Dispatch, MakeDue, Stop, Return}
 use Rattle.op_mir.specs.declared.instruction.Receiver.{Receiver}
@@ -139,7 +139,6 @@ module _ (core : Core) (wholes : List Root) where
   given_in (ByPlace path) s = first_in wholes path.root [] s
   given_in (ByCopy of path) s = first_in wholes path.root [] s
   given_in (ByValue kind t) s = tt
-  given_in (ByReference t) s = tt
 
   givens_in : (gs : List Given) → Sub (flat_map roots_of_given gs) wholes → Every (GivenIn wholes) (map view_given gs)
   givens_in [] s = tt
@@ -253,7 +252,6 @@ module _ (core : Core) (r : ℕ) (v : LocalId) where
   given_kept rs (ByPlace path) e = inr (omega arith)
   given_kept rs (ByCopy of path) e = inr (omega arith)
   given_kept rs (ByValue kind t) e = inl e
-  given_kept rs (ByReference t) e = inl e
 
   givens_kept : (rs : List Root) (gs : List Given) → IsNamed (fold with_given rs gs) → IsNamed rs ⊎ (1 ≤ givens_room (map view_given gs))
   givens_kept rs [] e = inl e

@@ -26,7 +26,7 @@ use Rattle.op_mir.specs.declared.action.Operand.TheVariants.{Number, Literal}
 use Rattle.op_mir.specs.declared.code.Block.{Block}
 use Rattle.op_mir.specs.declared.code.Routine.{Routine}
 use Rattle.op_mir.specs.declared.instruction.Given.{Given}
-use Rattle.op_mir.specs.declared.instruction.Given.TheVariants.{ByValue, ByReference, ByPlace, ByCopy}
+use Rattle.op_mir.specs.declared.instruction.Given.TheVariants.{ByValue, ByPlace, ByCopy}
 use Rattle.op_mir.specs.declared.instruction.Instruction.{Instruction}
 use Rattle.op_mir.specs.declared.instruction.Instruction.TheVariants.{Act, Call, Jump, When, Unless, Switch, Dispatch, MakeDue, Stop, Return}
 use Rattle.op_mir.specs.declared.instruction.Receiver.{Receiver}
@@ -128,7 +128,6 @@ module _ (top room : ℕ) where
 
   given_under : (g : Given) → GivenBelow top (view_given g) → in_given g ≤ top
   given_under (ByValue kind t) p = omega (arith, p)
-  given_under (ByReference t) p = omega (arith, p)
   given_under (ByPlace path) p = path_under path p
   given_under (ByCopy of path) p = path_under path p
 

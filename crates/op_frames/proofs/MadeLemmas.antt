@@ -110,10 +110,10 @@ module _ (Q : Instr → Type 0) (n : ℕ) (jumps : (k : ℕ) → 0 < k → k < n
     item_well out (halt t) k behind some m l b less = record { now_is = in_front Q _ behind m b; blocks_are = tt }
     item_well out (scoped t ts items) k behind some m l b less = absurd m
     item_well out (attempt items cs) k behind some m l b less = absurd m
-    item_well out (throw t) k behind some m l b less = absurd m
+    item_well out (throw at) k behind some m l b less = absurd m
     item_well out rethrow k behind some m l b less = absurd m
-    item_well out (construct c r given to) k behind some m l b less = absurd m
-    item_well out (free takes_nil t) k behind some m l b less = absurd m
+    item_well out (construct c r given receiver) k behind some m l b less = absurd m
+    item_well out (free takes_nil at) k behind some m l b less = absurd m
 
     loop_well : (out : Exits) (t : Turns) (k : ℕ) (behind : List Instr) → 0 < k → AreMadeTurns Q n t → LeadsBy Q out → IsCode Q behind → k + length (code_loop out t k behind) ≤ n → Every (IsCode Q) (code_loop out t k behind)
     loop_well out (turns head t ends between body) k behind some m l b less =

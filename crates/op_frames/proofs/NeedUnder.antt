@@ -53,7 +53,7 @@ use Rattle.op_mir.specs.declared.action.Operand.TheVariants.{Number, Literal}
 use Rattle.op_mir.specs.declared.code.Block.{Block}
 use Rattle.op_mir.specs.declared.code.Routine.{Routine}
 use Rattle.op_mir.specs.declared.instruction.Given.{Given}
-use Rattle.op_mir.specs.declared.instruction.Given.TheVariants.{ByValue, ByReference, ByPlace, ByCopy}
+use Rattle.op_mir.specs.declared.instruction.Given.TheVariants.{ByValue, ByPlace, ByCopy}
 use Rattle.op_mir.specs.declared.instruction.Instruction.{Instruction}
 use Rattle.op_mir.specs.declared.instruction.Instruction.TheVariants.{Act, Call, Jump, When, Unless, Switch, Dispatch, MakeDue, Stop, Return}
 use Rattle.op_mir.specs.declared.instruction.Receiver.{Receiver}
@@ -96,7 +96,6 @@ operands_as (o ∷ os) = sum_by-cons operand_words o os ∙ ap₂ (λ a b. a + b
 given_as : (g : Given) → given_words g ≡ given_room (view_given g)
 unfolding given_words
 given_as (ByValue kind t) = refl
-given_as (ByReference t) = refl
 given_as (ByPlace path) = path_as path
 given_as (ByCopy of path) = path_as path
 
@@ -186,7 +185,6 @@ module _ (core : Core) where
     given_covered (ByPlace path) c = (c, tt)
     given_covered (ByCopy of path) c = (c, tt)
     given_covered (ByValue kind t) c = tt
-    given_covered (ByReference t) c = tt
 
     givens_covered : (gs : List Given) → Every (GivenIn wholes) (map view_given gs) → Every (IsCovered core wholes) (flat_map roots_of_given gs)
     givens_covered [] c = tt

@@ -23,7 +23,7 @@ use Rattle.op_mir.specs.declared.action.Action.TheVariants.{Constant, Load, Stor
 use Rattle.op_mir.specs.declared.code.Block.{Block}
 use Rattle.op_mir.specs.declared.code.Routine.{Routine}
 use Rattle.op_mir.specs.declared.instruction.Given.{Given}
-use Rattle.op_mir.specs.declared.instruction.Given.TheVariants.{ByValue, ByReference, ByPlace, ByCopy}
+use Rattle.op_mir.specs.declared.instruction.Given.TheVariants.{ByValue, ByPlace, ByCopy}
 use Rattle.op_mir.specs.declared.instruction.Instruction.{Instruction}
 use Rattle.op_mir.specs.declared.instruction.Instruction.TheVariants.{Act, Call, Jump, When, Unless, Switch, Dispatch, MakeDue, Stop, Return}
 use Rattle.op_mir.specs.declared.instruction.Receiver.{Receiver}
@@ -196,7 +196,6 @@ module _ (core : Core) where
   given_good wholes rs (ByPlace path) g c = place_good wholes rs path.root g c
   given_good wholes rs (ByCopy of path) g c = temporary_good wholes rs path.root g c
   given_good wholes rs (ByValue kind t) g c = g
-  given_good wholes rs (ByReference t) g c = g
 
   givens_good : (wholes rs : List Root) (xs : List Given) → IsGood wholes rs → Every (GivenIn wholes) (map view_given xs) → IsGood wholes (fold with_given rs xs)
   givens_good wholes rs [] g c = g

@@ -61,10 +61,10 @@ abbrev mutual
   IsMade Q blocks (halt t) = Q (stop t)
   IsMade Q blocks (scoped t ts items) = ⊥
   IsMade Q blocks (attempt items cs) = ⊥
-  IsMade Q blocks (throw t) = ⊥
+  IsMade Q blocks (throw at) = ⊥
   IsMade Q blocks rethrow = ⊥
-  IsMade Q blocks (construct c r given to) = ⊥
-  IsMade Q blocks (free takes_nil t) = ⊥
+  IsMade Q blocks (construct c r given receiver) = ⊥
+  IsMade Q blocks (free takes_nil at) = ⊥
 
   pub AreMadeTurns : (Instr → Type 0) → ℕ → Turns → Type 0
   AreMadeTurns Q blocks (turns head t ends between body) = ((k : ℕ) → 0 < k → k < blocks → Q (branch_if ends t k)) × AreMade Q blocks head × AreMade Q blocks between × AreMade Q blocks body

@@ -9,7 +9,7 @@ use Rattle.op_core.specs.declared.statement.Label.{Label}
 use Rattle.op_places.specs.Frames.{parameters_of}
 use Rattle.op_frames.specs.Made.{Every}
 use Rattle.op_meaning.specs.Actions.{Action, constant, load, store, copy, look, begin_with, pick, arithmetic, compare, negate, complement, invert, absolute, odd, upper, low_bits, check, neighbour, single, span, combine, contains, check_set, primitive}
-use Rattle.op_meaning.specs.Items.{Given, by_value, by_reference, by_place, by_copy, Receiver, nowhere, to_temp, to_place}
+use Rattle.op_meaning.specs.Items.{Given, by_value, by_place, by_copy, Receiver, nowhere, to_temp, to_place}
 use Rattle.op_meaning.specs.Primitives.{IsApplied, Operand, from_temp, literal_text}
 use Rattle.op_meaning.specs.Shapes.{shape_of}
 use Rattle.op_meaning.specs.Paths.{Path, Root, in_global, in_local, through, in_temporary, Step, field, element}
@@ -74,7 +74,6 @@ IsNamedAction core (primitive p operands to) = IsApplied IsNamedOperand p operan
 
 abbrev pub IsNamedGiven : Core → Given → Type 0
 IsNamedGiven core (by_value kind t) = Unit {0}
-IsNamedGiven core (by_reference t) = Unit {0}
 IsNamedGiven core (by_place p) = IsNamedPath core p
 IsNamedGiven core (by_copy of p) = IsNamedPath core p
 

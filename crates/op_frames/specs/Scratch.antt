@@ -1,7 +1,7 @@
 -- How many scratch registers the low code of an instruction takes at most.
 use Rattle.std.specs.Prelude.{ℕ, ◌+◌, ◌*◌, List, [], ◌∷◌, length}
 use Rattle.op_meaning.specs.Actions.{Action, constant, load, store, copy, look, begin_with, pick, arithmetic, compare, negate, complement, invert, absolute, odd, upper, low_bits, check, neighbour, single, span, combine, contains, check_set, primitive}
-use Rattle.op_meaning.specs.Items.{Given, by_value, by_reference, by_place, by_copy, Receiver, nowhere, to_temp, to_place}
+use Rattle.op_meaning.specs.Items.{Given, by_value, by_place, by_copy, Receiver, nowhere, to_temp, to_place}
 use Rattle.op_meaning.specs.Paths.{Path}
 use Rattle.op_meaning.specs.Primitives.{Operand, from_temp, literal_text}
 use Rattle.op_mir.specs.Code.{Instr, do_act, do_call, jump, when, unless, switch, dispatch, make_due, open_temporaries, end_temporary, stop, ret}
@@ -47,7 +47,6 @@ action_room (primitive p operands to) = 1 + operands_room operands
 
 abbrev pub given_room : Given → ℕ
 given_room (by_value kind t) = 1
-given_room (by_reference t) = 0
 given_room (by_place p) = path_room p
 given_room (by_copy of p) = path_room p
 

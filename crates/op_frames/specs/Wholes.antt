@@ -4,7 +4,7 @@ use Rattle.std.specs.List.{list_any}
 use Rattle.op_places.specs.Homes.{is_one_root}
 use Rattle.op_frames.specs.Made.{Every}
 use Rattle.op_meaning.specs.Actions.{Action, constant, load, store, copy, look, begin_with, pick, arithmetic, compare, negate, complement, invert, absolute, odd, upper, low_bits, check, neighbour, single, span, combine, contains, check_set, primitive}
-use Rattle.op_meaning.specs.Items.{Given, by_value, by_reference, by_place, by_copy, Receiver, nowhere, to_temp, to_place}
+use Rattle.op_meaning.specs.Items.{Given, by_value, by_place, by_copy, Receiver, nowhere, to_temp, to_place}
 use Rattle.op_meaning.specs.Paths.{Root, in_global, in_local, through, in_temporary}
 use Rattle.op_mir.specs.Code.{Instr, do_act, do_call, jump, when, unless, switch, dispatch, make_due, open_temporaries, end_temporary, stop, ret}
 use Rattle.op_mir.specs.declared.path.Root.{Root as ManagedRoot}
@@ -46,7 +46,6 @@ abbrev pub GivenIn : List ManagedRoot → Given → Type 0
 GivenIn wholes (by_place p) = IsWholeIn wholes p.root
 GivenIn wholes (by_copy of p) = IsWholeIn wholes p.root
 GivenIn wholes (by_value kind t) = Unit {0}
-GivenIn wholes (by_reference t) = Unit {0}
 
 abbrev pub ReceiverIn : List ManagedRoot → Receiver → Type 0
 ReceiverIn wholes (to_place of p) = IsWholeIn wholes p.root

@@ -3,7 +3,7 @@ use Rattle.std.specs.Prelude.{◌<◌, ◌≤◌, ℕ, ◌+◌, List, [], ◌∷
 use Rattle.op_frames.specs.Made.{Every}
 use Rattle.op_frames.specs.Scratch.{action_room, givens_room, receiver_room}
 use Rattle.op_meaning.specs.Actions.{Action, constant, load, store, copy, look, begin_with, pick, arithmetic, compare, negate, complement, invert, absolute, odd, upper, low_bits, check, neighbour, single, span, combine, contains, check_set, primitive}
-use Rattle.op_meaning.specs.Items.{Given, by_value, by_reference, by_place, by_copy, Receiver, nowhere, to_temp, to_place}
+use Rattle.op_meaning.specs.Items.{Given, by_value, by_place, by_copy, Receiver, nowhere, to_temp, to_place}
 use Rattle.op_meaning.specs.Paths.{Step, field, element}
 use Rattle.op_meaning.specs.Primitives.{Destination, EachOperand, Operand, from_temp, in_temp, literal_text, unused}
 use Rattle.op_mir.specs.Code.{Instr, do_act, do_call, jump, when, unless, switch, dispatch, make_due, open_temporaries, end_temporary, stop, ret, Arm}
@@ -55,7 +55,6 @@ ActionBelow top (primitive p operands to) = EachOperand (OperandBelow top) opera
 
 abbrev pub GivenBelow : ℕ → Given → Type 0
 GivenBelow top (by_value kind t) = t < top
-GivenBelow top (by_reference t) = t < top
 GivenBelow top (by_place p) = StepsBelow top p.steps
 GivenBelow top (by_copy of p) = StepsBelow top p.steps
 

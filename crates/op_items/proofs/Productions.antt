@@ -4,7 +4,7 @@ use Rattle.std.proofs.lemmas.List.{drop_all, map-append}
 use Rattle.std.specs.declared.alloc.Global.{Global}
 use Rattle.op_base.proofs.Tests.{map_ok}
 use Rattle.op_base.specs.declared.memory_error.NoMemory.{NoMemory}
-use Rattle.op_core.specs.Expression.{Expression, Element as Member, one, range, Elements, elements, Argument, array, listed, Arguments, arguments, Expressions, Root, call, construct as constructed, set as bracketed, argument_of, element_of}
+use Rattle.op_core.specs.Expression.{Expression, Element as Member, one, range, Elements, elements, Argument, listed, Arguments, arguments, Expressions, Root, call, construct as constructed, set as bracketed, argument_of, element_of}
 use Rattle.op_core.specs.Nodes.{arguments_of, elements_of}
 use Rattle.op_core.specs.declared.expression.CoreArgument.{CoreArgument}
 use Rattle.op_core.specs.declared.expression.CoreElement.{CoreElement}
@@ -19,8 +19,8 @@ use Rattle.op_items.specs.declared.found.Found.{Found as RustFound}
 use Rattle.op_items.specs.declared.item.Item.{Item}
 use Rattle.op_items.specs.declared.setting.Setting.{Setting}
 use Rattle.op_meaning.specs.Actions.{combine, constant, single as lone, span}
-use Rattle.op_meaning.specs.Expressions.{Env, Here, past, past_whole, Found, found, ready, find_root, gather, gather_one, make, pass, pass_one, receiver_of, result_of, AllPassed, goes_on_at, on_two, second_here, two_by}
-use Rattle.op_meaning.specs.Items.{Given, by_reference, Items, none, then_do, ◌&◌, only, act, also, enter, construct}
+use Rattle.op_meaning.specs.Expressions.{Env, Here, past, past_whole, Found, found, ready, find_root, gather, gather_one, make, pass, pass_one, receiver_of, result_of, AllPassed, goes_on_at, on_two, second_here, two_by, whole_path}
+use Rattle.op_meaning.specs.Items.{Given, by_copy, to_place, Items, none, then_do, ◌&◌, only, act, also, enter, construct}
 use Rattle.op_mir.specs.View.{view_given}
 use Rattle.op_mir.specs.declared.instruction.Given.{Given as RustGiven}
 use Rattle.op_tree.specs.declared.operator.Operator.{Operator}
@@ -112,11 +112,8 @@ pass_ends setting old new here at list k all q h a b = record {
   given = sym (append-nil (map view_given all.items)) ∙ ap (λ y. map view_given all.items ++ (pass (env_view setting) at (arguments_of y)).given) (sym (drop_all k list h)) ∙ b;
 }
 
-pub not_given : (setting : Setting) (old : List Item) (here : Here) (argument : Argument) (of : TypeId) (es : Expressions) (p : Passed) → argument ≡ listed of es → view_given p.given ≡ by_reference here.temp → p.used ≡ 0 → Passes setting old old p (pass_one (env_view setting) here argument)
-not_given setting old here argument of es p i g u = subst (λ a. Passes setting old old p (pass_one (env_view setting) here a)) (sym i) (record { adds = sym (behind_none (view_in setting old)); given = g; used = u })
-
-pub no_array : (setting : Setting) (old : List Item) (here : Here) (argument : Argument) (e : Expression) (p : Passed) → argument ≡ array e → view_given p.given ≡ by_reference here.temp → p.used ≡ 0 → Passes setting old old p (pass_one (env_view setting) here argument)
-no_array setting old here argument e p i g u = subst (λ a. Passes setting old old p (pass_one (env_view setting) here a)) (sym i) (record { adds = sym (behind_none (view_in setting old)); given = g; used = u })
+pub listed_given : (setting : Setting) (old : List Item) (here : Here) (argument : Argument) (of : TypeId) (es : Expressions) (p : Passed) → argument ≡ listed of es → view_given p.given ≡ by_copy of (whole_path of here) → p.used ≡ 0 → Passes setting old old p (pass_one (env_view setting) here argument)
+listed_given setting old here argument of es p i g u = subst (λ a. Passes setting old old p (pass_one (env_view setting) here a)) (sym i) (record { adds = sym (behind_none (view_in setting old)); given = g; used = u })
 
 -- ---- what an expression begins with
 
@@ -132,13 +129,14 @@ call_found setting old mid new f here at of root id given all i a p b e =
     let b' : Adds setting mid new (only (enter id.0 q.given to)) = subst (λ g. Adds setting mid new (only (enter id.0 g to))) p'.given b in
     root_gives setting old new f here of i (record { adds = adds_both setting old mid new q.items (only (enter id.0 q.given to)) p'.adds b'; is = e })
 
-pub construct_found : (setting : Setting) (old mid new : List Item) (f : RustFound) (here at : Here) (of : TypeId) (root : Root) (class : ClassId) (id : RoutineId) (given : Arguments) (all : Vec RustGiven Global) → root ≡ constructed class id given → at ≡ past_whole here → PassesAll setting old mid all (pass (env_view setting) at given) → Adds setting mid new (only (construct class id.0 (map view_given all.items) here.temp)) → found_view f ≡ found none ready → Gives setting old new f (find_root (env_view setting) here of root)
+pub construct_found : (setting : Setting) (old mid new : List Item) (f : RustFound) (here at : Here) (of : TypeId) (root : Root) (class : ClassId) (id : RoutineId) (given : Arguments) (all : Vec RustGiven Global) → root ≡ constructed class id given → at ≡ past_whole here → PassesAll setting old mid all (pass (env_view setting) at given) → Adds setting mid new (only (construct class id.0 (map view_given all.items) (to_place of (whole_path of here)))) → found_view f ≡ found none ready → Gives setting old new f (find_root (env_view setting) here of root)
 construct_found setting old mid new f here at of root class id given all i a p b e =
     let env = env_view setting in
     let q = pass env (past_whole here) given in
+    let to = to_place of (whole_path of here) in
     let p' : PassesAll setting old mid all q = subst (λ h. PassesAll setting old mid all (pass env h given)) a p in
-    let b' : Adds setting mid new (only (construct class id.0 q.given here.temp)) = subst (λ g. Adds setting mid new (only (construct class id.0 g here.temp))) p'.given b in
-    root_gives setting old new f here of i (record { adds = adds_both setting old mid new q.items (only (construct class id.0 q.given here.temp)) p'.adds b'; is = e })
+    let b' : Adds setting mid new (only (construct class id.0 q.given to)) = subst (λ g. Adds setting mid new (only (construct class id.0 g to))) p'.given b in
+    root_gives setting old new f here of i (record { adds = adds_both setting old mid new q.items (only (construct class id.0 q.given to)) p'.adds b'; is = e })
 
 pub set_found : (setting : Setting) (old mid new : List Item) (f : RustFound) (here : Here) (of : TypeId) (root : Root) (es : Elements) (to : ℕ) → root ≡ bracketed es → to ≡ here.temp → Adds setting old mid (only (act (constant to (pos 0)))) → Adds setting mid new (gather (env_view setting) here es) → found_view f ≡ found none ready → Gives setting old new f (find_root (env_view setting) here of root)
 set_found setting old mid new f here of root es to i t a b e =

@@ -10,7 +10,7 @@ use Rattle.op_items.specs.declared.item.Way.{Way}
 use Rattle.op_items.specs.declared.item.Way.TheVariants.{Exit, Break, Continue}
 use Rattle.op_meaning.specs.Items.{Item as MeantItem, act, also, choose, select, loop, body_first, protect, leave, enter, attempt, throw, rethrow, halt, construct, free, Items, none, then_do, Turns as MeantTurns, turns, Cases, no_cases, cases, Clauses, no_clauses, for_others, clauses}
 use Rattle.op_meaning.specs.Paths.{Root as MeantRoot}
-use Rattle.op_mir.specs.View.{view_action, view_given, view_receiver, view_root}
+use Rattle.op_mir.specs.View.{view_action, view_given, view_path, view_receiver, view_root}
 use Rattle.op_mir.specs.declared.path.Root.{Root}
 
 -- 0 leaves the routine, 1 the loop, 2 its turn
@@ -37,11 +37,11 @@ abbrev mutual
   item_view core r (Enter id given receiver) = enter id.0 (map view_given given) (view_receiver receiver)
   item_view core r (Attempt' _ row _ handlers) = attempt (item_row core r row) (clause_row core r handlers no_clauses)
   item_view core r (AttemptAll' _ row _ handlers _ others) = attempt (item_row core r row) (clause_row core r handlers (for_others (item_row core r others)))
-  item_view core r (Throw t) = throw t.0
+  item_view core r (Throw at) = throw (view_path at)
   item_view core r Rethrow = rethrow
   item_view core r (Halt t) = halt t.0
-  item_view core r (Construct class id given to) = construct class id.0 (map view_given given) to.0
-  item_view core r (Free takes_nil t) = free takes_nil t.0
+  item_view core r (Construct class id given receiver) = construct class id.0 (map view_given given) (view_receiver receiver)
+  item_view core r (Free takes_nil at) = free takes_nil (view_path at)
 
   pub item_row : Core → ℕ → {n : _} → Row_of-Item n → Items
   item_row core r end_of-Item = none

@@ -3,8 +3,8 @@
 ghost use Rattle.std.specs.Prelude.{◌≡◌, IfOk, map, slice_get};
 ghost use Rattle.op_items.specs.Adding.{Adds};
 ghost use Rattle.op_items.specs.Setting.{here_view};
-ghost use Rattle.op_meaning.specs.Expressions.{given_by, receiver_of, result_of};
-ghost use Rattle.op_meaning.specs.Items.{by_reference, construct, enter, only, to_temp};
+ghost use Rattle.op_meaning.specs.Expressions.{given_by, receiver_of, result_of, whole_path};
+ghost use Rattle.op_meaning.specs.Items.{construct, enter, only, to_place};
 ghost use Rattle.op_meaning.specs.Shapes.{shape_of};
 ghost use Rattle.op_mir.specs.View.{view_given, view_receiver};
 
@@ -36,13 +36,10 @@ impl Setting<'_> {
                 kind,
                 temporary: here.first(),
             },
-            Shape::Composite => Given::ByCopy {
+            _ => Given::ByCopy {
                 of,
                 path: whole_path(self.alloc, of, here),
             },
-            Shape::Chars => by_reference(here),
-            Shape::Elements => by_reference(here),
-            Shape::Instance { .. } => by_reference(here),
         }
     }
 
@@ -53,14 +50,13 @@ impl Setting<'_> {
             return Receiver::Nowhere;
         };
         match shape_of(self.core, of) {
-            Shape::Composite => Receiver::Place {
+            Shape::Single(_) => Receiver::Temporary {
+                temporary: here.first(),
+            },
+            _ => Receiver::Place {
                 of,
                 to: whole_path(self.alloc, of, here),
             },
-            Shape::Single(_) => to_temporary(here),
-            Shape::Chars => to_temporary(here),
-            Shape::Elements => to_temporary(here),
-            Shape::Instance { .. } => to_temporary(here),
         }
     }
 
@@ -86,18 +82,20 @@ impl Setting<'_> {
         )
     }
 
-    /// A constructor is called on a class.
+    /// A constructor is called on a class, and gives an instance of the type.
     pub fn construct(
         self,
         items: &mut Vec<Item>,
+        of: TypeId,
         here: Here,
         class: ClassId,
         routine: RoutineId,
         given: Vec<Given>,
     ) -> Result<(), NoMemory>
-        ensures { IfOk result (λ _. Adds self.entry items.old.items items.new.items (only (construct class routine.0 (map view_given given.items) (here_view here).temp))) }
+        ensures { IfOk result (λ _. Adds self.entry items.old.items items.new.items (only (construct class routine.0 (map view_given given.items) (to_place of (whole_path of (here_view here)))))) }
     {
-        let to = here.first();
+        let to = whole_path(self.alloc, of, here);
+        let receiver = Receiver::Place { of, to };
         let given = Sequence::from(given);
         self.item(
             items,
@@ -105,24 +103,8 @@ impl Setting<'_> {
                 class,
                 routine,
                 given,
-                to,
+                receiver,
             },
         )
-    }
-}
-
-pub fn by_reference(here: Here) -> Given
-    ensures { view_given result ≡ by_reference (here_view here).temp }
-{
-    Given::ByReference {
-        temporary: here.first(),
-    }
-}
-
-fn to_temporary(here: Here) -> Receiver
-    ensures { view_receiver result ≡ to_temp (here_view here).temp }
-{
-    Receiver::Temporary {
-        temporary: here.first(),
     }
 }

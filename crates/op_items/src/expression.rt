@@ -1,19 +1,17 @@
 //! Expressions. Operands are evaluated from the left to the right; the value of an expression goes to the first temporary that is
 //! free, or stays in its place where only a part of it is looked at ("Expressions" of the Free Pascal Reference Guide).
 ghost use Rattle.std.specs.Prelude.{◌≡◌, IfOk};
-ghost use Rattle.op_core.specs.Expression.{action_of, argument_of, element_of, expr_of, root_of};
+ghost use Rattle.op_core.specs.Expression.{action_of, argument_of, element_of, expr_of, place, root_of};
 ghost use Rattle.op_core.specs.Nodes.{arguments_of, elements_of};
 ghost use Rattle.op_core.specs.Sizes.{type_at};
 ghost use Rattle.op_items.specs.Adding.{Adds, Gives, Passes, PassesAll, env_view, found_view, two_on};
 ghost use Rattle.op_items.specs.Setting.{here_view};
 ghost use Rattle.op_meaning.specs.Expressions.{find, find_root, find_step, gather, gather_one, make, pass, pass_one};
-ghost use Rattle.op_meaning.specs.Items.{by_reference};
-ghost use Rattle.op_mir.specs.View.{view_given};
 
-use crate::call::by_reference;
 use crate::found::{Found, path_of};
 use crate::item::Item;
 use crate::operation::goes_on_at;
+use crate::path::whole_path;
 use crate::setting::{Here, Setting};
 use crate::shape::type_of;
 use op_base::NoMemory;
@@ -86,7 +84,7 @@ fn root(
             arguments,
         } => {
             let given = pass(setting, here.past_whole()?, arguments, items)?;
-            setting.construct(items, here, *class, *constructor, given)?;
+            setting.construct(items, of, here, *class, *constructor, given)?;
             Ok(Found::ready())
         }
         Root::Set(elements) => {
@@ -270,24 +268,28 @@ fn pass_one(
             let given = setting.given(type_of(value), here);
             Ok(Passed { given, used: 1 })
         }
-        CoreArgument::Place(place) => {
-            let Found { now, used } = find(setting, here, place, items)?;
-            let path = path_of(setting.alloc, type_of(place), here, now);
-            let given = Given::ByPlace { path };
-            Ok(Passed { given, used })
+        CoreArgument::Place(place) => pass_place(setting, here, place, items),
+        CoreArgument::Array(array) => pass_place(setting, here, array, items),
+        CoreArgument::Elements { of, .. } => {
+            let path = whole_path(setting.alloc, *of, here);
+            let given = Given::ByCopy { of: *of, path };
+            Ok(Passed { given, used: 0 })
         }
-        CoreArgument::Array(_) => Ok(not_passed(here)),
-        CoreArgument::Elements { .. } => Ok(not_passed(here)),
     }
 }
 
-/// Nothing is done for open arrays.
-fn not_passed(here: Here) -> Passed
-    ensures given { view_given result.given ≡ by_reference (here_view here).temp }
-    ensures used { result.used ≡ 0 }
+/// The place itself is given.
+#[cycle(expression)]
+fn pass_place(
+    setting: Setting,
+    here: Here,
+    e: &CoreExpr,
+    items: &mut Vec<Item>,
+) -> Result<Passed, NoMemory>
+    ensures { IfOk result (λ p. Passes setting.entry items.old.items items.new.items p (pass_one (env_view setting.entry) (here_view here) (place (expr_of e.now)))) }
 {
-    Passed {
-        given: by_reference(here),
-        used: 0,
-    }
+    let Found { now, used } = find(setting, here, e, items)?;
+    let path = path_of(setting.alloc, type_of(e), here, now);
+    let given = Given::ByPlace { path };
+    Ok(Passed { given, used })
 }

@@ -16,7 +16,7 @@ use std::alloc::Global;
 /// Where a value is.
 #[derive(Drop)]
 pub enum Now {
-    /// In the first free temporary, by its type one for a value or one for a record or an array.
+    /// In the first free temporary, by its type one for a number or one for a value that is no number.
     Ready,
     /// At a place.
     At(Path),

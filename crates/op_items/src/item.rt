@@ -1,7 +1,7 @@
 //! The items of a statement.
 use op_base::Sequence;
 use op_core::{ClassId, Label, RoutineId};
-use op_mir::{Action, Given, Receiver, Root, TemporaryId};
+use op_mir::{Action, Given, Path, Receiver, Root, TemporaryId};
 
 /// How a statement leaves what stands round it.
 #[derive(Clone, Copy)]
@@ -59,26 +59,26 @@ pub enum Item {
         clauses: Vec<Clause>,
         others: Vec<Item>,
     },
-    /// Raises the instance in a temporary.
+    /// Raises the instance at a place.
     Throw {
-        instance: TemporaryId,
+        at: Path,
     },
     /// Raises the handler's instance again.
     Rethrow,
     Halt {
         status: TemporaryId,
     },
-    /// A constructor is called on a class, and the instance goes to a temporary.
+    /// A constructor is called on a class, and the instance goes to a receiver.
     Construct {
         class: ClassId,
         routine: RoutineId,
         given: Sequence<Given>,
-        to: TemporaryId,
+        receiver: Receiver,
     },
-    /// Free of the instance in a temporary; `takes_nil` says that nil is left alone.
+    /// Free of the instance at a place; `takes_nil` says that nil is left alone.
     Free {
         takes_nil: bool,
-        instance: TemporaryId,
+        at: Path,
     },
 }
 

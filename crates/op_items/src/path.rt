@@ -45,7 +45,7 @@ pub fn copy_of(alloc: Global, path: &Path) -> Result<Path, NoMemory>
     })
 }
 
-/// The first free temporary for a record or an array of the type.
+/// The first free temporary for a value of the type that is no number.
 pub fn whole_path(alloc: Global, of: TypeId, here: Here) -> Path
     ensures { view_path result ≡ whole_path of (here_view here) }
 {

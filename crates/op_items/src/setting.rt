@@ -16,8 +16,8 @@ pub struct Setting<'a> {
     pub routine: RoutineId,
 }
 
-/// Where values go. Temporaries are numbered by where a value stands in the text: `temporary` is the first free one for a value and
-/// `whole` the first free one for a record or an array.
+/// Where values go. Temporaries are numbered by where a value stands in the text: `temporary` is the first free one for a number and
+/// `whole` the first free one for a value that is no number.
 #[derive(Clone, Copy)]
 pub struct Here {
     temporary: u32,
@@ -35,7 +35,7 @@ impl Here {
         }
     }
 
-    /// The first free temporary for a value.
+    /// The first free temporary for a number.
     pub fn first(self) -> TemporaryId
         ensures { result.0 ≡ (here_view self).temp }
     {
@@ -49,7 +49,7 @@ impl Here {
         Ok(TemporaryId(sum(self.temporary, count)?))
     }
 
-    /// The first free temporary for a record or an array.
+    /// The first free temporary for a value that is no number.
     pub fn whole(self) -> u32
         ensures { result ≡ (here_view self).whole }
     {
@@ -64,7 +64,7 @@ impl Here {
         Ok(Here { temporary, ..self })
     }
 
-    /// Behind one for a record or an array.
+    /// Behind one for a value that is no number.
     pub fn past_whole(self) -> Result<Here, NoMemory>
         ensures { IfOk result (λ here. here_view here ≡ past_whole (here_view self)) }
     {

@@ -3,18 +3,21 @@
 
 ghost use Rattle.std.specs.Prelude.{◌≡◌, IfOk};
 ghost use Rattle.op_core.specs.Expression.{expr_of};
-ghost use Rattle.op_core.specs.Statement.{built_in_of, exit_with};
+ghost use Rattle.op_core.specs.Statement.{built_in_of, exit_with, raise};
+ghost use Rattle.op_core.specs.Typing as typing;
 ghost use Rattle.op_items.specs.Adding.{Adds, cases_in, env_view, turns_in, view_in};
 ghost use Rattle.op_items.specs.Setting.{here_view};
 ghost use Rattle.op_items.specs.View.{variable_view, way_view};
-ghost use Rattle.op_meaning.specs.Expressions.{find, make};
-ghost use Rattle.op_meaning.specs.Items.{choose, free, halt, leave, none, only, rethrow, select, throw, turns, ◌&◌};
+ghost use Rattle.op_meaning.specs.Expressions.{find, make, path_of};
+ghost use Rattle.op_meaning.specs.Items.{choose, free, halt, leave, none, only, rethrow, select, turns, ◌&◌};
 ghost use Rattle.op_meaning.specs.Statements.{clause_variable, done_built_in, work_of};
 
 use crate::expression::{find, make};
+use crate::found::{Found, path_of};
 use crate::item::{Case, Item, Turns, Way};
 use crate::path::root_of;
 use crate::setting::{Here, Setting};
+use crate::shape::type_of;
 use op_base::NoMemory;
 use op_core::{CoreAction, CoreExpr, VariableId};
 use op_mir::Root;
@@ -82,11 +85,11 @@ impl Setting<'_> {
         here: Here,
         exception: &CoreExpr,
     ) -> Result<(), NoMemory>
-        ensures { IfOk result (λ _. Adds self.entry items.old.items items.new.items ((make (env_view self.entry) (here_view here) (expr_of exception.now)).items & only (throw (here_view here).temp))) }
+        ensures { IfOk result (λ _. Adds self.entry items.old.items items.new.items (work_of (env_view self.entry) (here_view here) (raise (expr_of exception.now)))) }
     {
-        make(self, here, exception, items)?;
-        let instance = here.first();
-        self.item(items, Item::Throw { instance })
+        let Found { now, .. } = find(self, here, exception, items)?;
+        let at = path_of(self.alloc, type_of(exception), here, now);
+        self.item(items, Item::Throw { at })
     }
 
     /// The handler's instance is raised again.
@@ -145,17 +148,11 @@ impl Setting<'_> {
         object: &CoreExpr,
         takes_nil: bool,
     ) -> Result<(), NoMemory>
-        ensures { IfOk result (λ _. Adds self.entry items.old.items items.new.items ((make (env_view self.entry) (here_view here) (expr_of object.now)).items & only (free takes_nil (here_view here).temp))) }
+        ensures { IfOk result (λ _. Adds self.entry items.old.items items.new.items (let f = find (env_view self.entry) (here_view here) (expr_of object.now) in f.items & only (free takes_nil (path_of (typing.type_of (expr_of object.now)) (here_view here) f.now)))) }
     {
-        make(self, here, object, items)?;
-        let instance = here.first();
-        self.item(
-            items,
-            Item::Free {
-                takes_nil,
-                instance,
-            },
-        )
+        let Found { now, .. } = find(self, here, object, items)?;
+        let at = path_of(self.alloc, type_of(object), here, now);
+        self.item(items, Item::Free { takes_nil, at })
     }
 
     /// A call of a built-in procedure.

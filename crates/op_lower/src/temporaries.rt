@@ -68,7 +68,6 @@ fn in_given(given: &Given) -> u64
 {
     match given {
         Given::ByValue { kind: _, temporary } => up_to(*temporary),
-        Given::ByReference { temporary } => up_to(*temporary),
         Given::ByPlace { path } => in_path(path),
         Given::ByCopy { of: _, path } => in_path(path),
     }

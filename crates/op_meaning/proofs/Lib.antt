@@ -11,4 +11,5 @@ mod RunsLoops
 mod RunsNumbers
 mod RunsParts
 mod RunsSets
+mod RunsSteps
 pub mod RunsWhole

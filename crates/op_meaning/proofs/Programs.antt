@@ -22,6 +22,7 @@ use Rattle.op_core.specs.declared.routine.Routine.{Routine}
 use Rattle.op_core.specs.declared.routine.Variable.{Variable}
 use Rattle.op_core.specs.declared.types.CoreType.{CoreType}
 use Rattle.op_core.specs.declared.types.Field.{Field}
+use Rattle.op_meaning.specs.Spots.{spots_from}
 use Rattle.op_tree.specs.declared.class.Visibility.TheVariants.{Public}
 use Rattle.op_tree.specs.declared.heading.ParameterMode.TheVariants.{Value, Var, Const_, Out}
 use Rattle.op_tree.specs.declared.heading.RoutineKind.TheVariants.{Procedure}
@@ -49,7 +50,7 @@ outcome_of s = record { output = s.world.output; errors = s.world.errors; ending
 
 -- of so many steps without input
 unfoldable pub outcome : ℕ → Program → Outcome
-unfolding after run_for step step_by stepped acted done do_item do_task perform bits_below decimal_by int_wrap each any_below
+unfolding after run_for step step_by stepped acted done do_item do_task perform bits_below decimal_by int_wrap each any_below spots_from
 outcome n p = outcome_of (after p [] n)
 
 -- a program that wrote this and ended with 0
@@ -200,7 +201,7 @@ module _ (name : Name) where
   abbrev pub core_of : List CoreType → List Field → ℕ → List Variable → List Routine → Core
   core_of types fields globals variables routines = record {
     types = predefined ++ types;
-    extents = extent 1 false ∷ extent 1 false ∷ extent 2 false ∷ extent 2 false ∷ extent 4 false ∷ extent 1 false ∷ extent 1 false ∷ replicate 9 (extent 4 false);
+    extents = extent 1 false ∷ extent 1 false ∷ extent 2 false ∷ extent 2 false ∷ extent 4 false ∷ extent 1 false ∷ extent 1 false ∷ extent 4 true ∷ replicate 8 (extent 4 false);
     fields = fields;
     classes = [];
     interfaces = [];

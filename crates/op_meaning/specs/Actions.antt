@@ -1,6 +1,6 @@
 -- Actions: what an activation does between two choices, each in one step. Their operands and what they give are in temporaries, which
 -- are named by their numbers. (Free Pascal Reference Guide, "Expressions" and "Assignments"; reference of the unit System.)
-use Rattle.std.specs.Prelude.{ℕ, ℤ, pos, ◌+ℤ◌, ◌-ℤ◌, neg_ℤ, nat_abs, unsigned_abs, Bool, not, ◌&&◌, List, length, slice_index, Option, Some, None, if◌then◌else◌}
+use Rattle.std.specs.Prelude.{ℕ, ℤ, pos, ◌+ℤ◌, ◌-ℤ◌, neg_ℤ, nat_abs, unsigned_abs, Bool, not, ◌&&◌, List, length, slice_index, if◌then◌else◌}
 use Rattle.std.specs.Int.{w32, int_bit_not}
 use Rattle.std.specs.Ordering.{int_eq}
 use Rattle.op_core.specs.Initial.{FirstValue}
@@ -13,7 +13,7 @@ use Rattle.op_meaning.specs.Paths.{Path, place_of}
 use Rattle.op_meaning.specs.Primitives.{Destination, Operand, meaning, performed, signature, values_of}
 use Rattle.op_meaning.specs.Sets.{truth, bit, set_of, without, combined, is_element}
 use Rattle.op_meaning.specs.Shapes.{first_of}
-use Rattle.op_meaning.specs.Values.{Place, number, local, all_of, number_in}
+use Rattle.op_meaning.specs.Values.{Place, Reached, reached, failing, number, local, all_of, number_in}
 use Rattle.op_meaning.specs.World.{World, with_number, number_at, value_at, with_value}
 use Rattle.op_meaning.specs.declared.primitive.Primitive.{Primitive}
 use Rattle.op_tree.specs.declared.operator.Operator.{Operator}
@@ -57,10 +57,10 @@ pub data Action : Type 0 where
   -- ---- what a run-time routine does
   primitive : (p : Primitive) → (operands : List Operand) → (to : Destination) → Action
 
--- where a path leads to nowhere an index is out of range
-abbrev pub at_place : Core → Option Place → (Place → World) → World → World
-at_place core None f w = failed core 201 w
-at_place core (Some p) f w = f p
+-- what is done at a place, or the error that is met on the way there
+abbrev pub at_place : Core → Reached Place → (Place → World) → World → World
+at_place core (failing error) f w = failed core error w
+at_place core (reached p) f w = f p
 
 -- the low 32 bits of a result, or error 215 where Q is on and it has more
 abbrev pub computed : Core → Bool → ℕ → ℤ → World → World

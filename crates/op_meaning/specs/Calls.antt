@@ -1,7 +1,7 @@
 -- Calls: how an activation begins, and what it leaves when it returns. (Free Pascal Reference Guide, "Using functions and
 -- procedures", "Function results" and "Parameter lists".)
-use Rattle.std.specs.Prelude.{ℕ, zero, suc, ◌+◌, ◌-◌, pos, Bool, true, false, ◌&&◌, List, [], ◌∷◌, ◌++◌, Option, Some, None, slice_get, nat_eq, if◌then◌else◌}
-use Rattle.std.specs.Option.{option_map}
+use Rattle.std.specs.Prelude.{ℕ, zero, suc, ◌+◌, ◌-◌, pos, Bool, true, false, ◌&&◌, List, [], ◌∷◌, ◌++◌, Option, Some, None, slice_get, nat_eq, if◌then◌else◌, ℤ}
+use Rattle.op_core.specs.declared.ids.ClassId.{ClassId}
 use Rattle.op_core.specs.declared.ids.TypeId.{TypeId}
 use Rattle.op_core.specs.declared.program.Core.{Core}
 use Rattle.op_core.specs.declared.routine.Role.{Role}
@@ -9,40 +9,58 @@ use Rattle.op_core.specs.declared.routine.Role.TheVariants.{Plain, Constant, Par
 use Rattle.op_core.specs.declared.routine.Variable.{Variable}
 use Rattle.op_meaning.specs.Actions.{at_place}
 use Rattle.op_meaning.specs.Expressions.{Env, first_here, result_of}
-use Rattle.op_meaning.specs.Frames.{Program, StateOver, CallerOver, Rules, with_work, fails, charged_for, discharged}
+use Rattle.op_meaning.specs.Frames.{Program, StateOver, CallerOver, Rules, charged_for, discharged, with_world, with_frames, at_reached, Callee, a_routine, a_maker, Handed, a_value, a_place, calling, construction}
 use Rattle.op_meaning.specs.Holding.{searching}
-use Rattle.op_meaning.specs.Items.{Given, by_value, by_reference, by_place, by_copy, Receiver, nowhere, to_temp, to_place, Task, ending, onto}
+use Rattle.op_meaning.specs.Items.{Given, by_value, by_place, by_copy, Receiver, nowhere, to_temp, to_place, Task, ending, onto}
 use Rattle.op_meaning.specs.Numbers.{low_bits_of}
 use Rattle.op_meaning.specs.Paths.{place_of}
-use Rattle.op_meaning.specs.Shapes.{zero_of, variables_of, type_of_local, result_of_routine, is_managed, is_reference}
+use Rattle.op_meaning.specs.Shapes.{zero_of, variables_of, type_of_local, result_of_routine, is_managed, is_reference, zero_instance}
 use Rattle.op_meaning.specs.Statements.{work_of_all, first_items}
-use Rattle.op_meaning.specs.Values.{Value, number, Holder, local, temporary, Place, all_of}
-use Rattle.op_meaning.specs.World.{World, number_at, with_temp, value_at, with_value}
+use Rattle.op_meaning.specs.Values.{Value, number, Holder, local, temporary, Place, all_of, number_in, instance, object, Spot, Reached, reached, and_then}
+use Rattle.op_meaning.specs.World.{World, number_at, value_at, with_value, with_number, fields, Construction, making}
+use Rattle.op_tree.specs.declared.heading.ParameterMode.TheVariants.{Out}
 
 abbrev pub env_of : Program → ℕ → Env
 env_of p r = record { core = p.core; routine = r }
 
 -- ---- what is handed over
 
--- a value, or what a variable parameter stands for
-pub data Handed : Type 0 where
-  a_value : (value : Value) → Handed
-  a_place : (place : Place) → Handed
+-- the value, or the error that is met on the way to a place
+abbrev pub handed : World → Given → Reached Handed
+handed w (by_value kind t) = reached (a_value (number (low_bits_of kind (number_at w t))))
+handed w (by_place path) = and_then (place_of w path) (λ q. reached (a_place q))
+handed w (by_copy of path) = and_then (place_of w path) (λ q. reached (a_value (value_at w q)))
 
--- nothing where an index is out of its range
-abbrev pub handed : World → Given → Option Handed
-handed w (by_value kind t) = Some (a_value (number (low_bits_of kind (number_at w t))))
-handed w (by_reference t) = Some (a_value (w.temps t))
-handed w (by_place path) = option_map (λ q. a_place q) (place_of w path)
-handed w (by_copy of path) = option_map (λ q. a_value (value_at w q)) (place_of w path)
+-- paths are followed in order of the parameters, and the first one that fails decides
+abbrev pub all_handed : World → List Given → Reached (List Handed)
+all_handed w [] = reached []
+all_handed w (g ∷ gs) = and_then (handed w g) (λ x. and_then (all_handed w gs) (λ xs. reached (x ∷ xs)))
 
-abbrev pub with_handed : Option Handed → Option (List Handed) → Option (List Handed)
-with_handed (Some x) (Some xs) = Some (x ∷ xs)
-with_handed _ _ = None
+-- ---- what is emptied first ("Out parameters")
 
-abbrev pub all_handed : World → List Given → Option (List Handed)
-all_handed w [] = Some []
-all_handed w (g ∷ gs) = with_handed (handed w g) (all_handed w gs)
+abbrev is_out : Role → Bool
+is_out (Parameter Out) = true
+is_out _ = false
+
+-- an `out` parameter of a managed type finds its place empty
+abbrev pub emptied_type : Core → Option Variable → Option TypeId
+emptied_type core None = None
+emptied_type core (Some v) = if is_out v.role && is_managed core v.of then Some v.of else None
+
+abbrev pub spot_at : Place → Option TypeId → List Spot
+spot_at q None = []
+spot_at q (Some of) = record { at = q; of = of } ∷ []
+
+-- what is given to the parameters from this row on
+abbrev pub outs_from : Core → ℕ → List Handed → List Spot
+outs_from core v [] = []
+outs_from core v (a_value x ∷ given) = outs_from core (suc v) given
+outs_from core v (a_place q ∷ given) = spot_at q (emptied_type core (slice_get core.variables v)) ++ outs_from core (suc v) given
+
+-- the object of a constructor stands in front of what it is given
+abbrev pub outs_of : Core → Callee → List Handed → List Spot
+outs_of core (a_routine r) given = outs_from core (variables_of core r).first given
+outs_of core (a_maker c r) given = outs_from core (suc (variables_of core r).first) given
 
 -- parameters are the first variables of an activation, in order; of variables and parameters by value each has its own value
 abbrev pub given_one : ℕ → ℕ → Handed → World → World
@@ -61,12 +79,15 @@ cleared core r d memory (local e v) = if nat_eq e d then zero_of core (type_of_l
 cleared core r d memory (temporary e of n) = if nat_eq e d then zero_of core of else memory (temporary e of n)
 cleared core r d memory h = memory h
 
-abbrev pub no_temps : ℕ → Value
-no_temps t = number (pos 0)
+abbrev pub no_temps : ℕ → ℤ
+no_temps t = pos 0
+
+abbrev pub none_waiting : ℕ → Option ℕ
+none_waiting t = None
 
 abbrev pub entered : Program → ℕ → List Handed → World → World
 entered p r given w =
-    given_all (suc w.depth) 0 given (record w { temps = no_temps; made = []; depth = suc w.depth; memory = cleared p.core r (suc w.depth) w.memory })
+    given_all (suc w.depth) 0 given (record w { temps = no_temps; waiting = none_waiting; made = []; depth = suc w.depth; memory = cleared p.core r (suc w.depth) w.memory })
 
 abbrev has_own_value : Role → Bool
 has_own_value Plain = true
@@ -105,34 +126,52 @@ body_work p r =
 abbrev pub source_rules : Program → Rules (List Task) (Unit {0})
 source_rules p = searching p (body_work p)
 
--- the activation under way waits behind this work
-abbrev pub caller_of : {Work Counts : Type 0} → StateOver Work Counts → Receiver → Work → CallerOver Work
-caller_of s receiver work = record { routine = s.routine; temps = s.world.temps; made = s.world.made; work = work; receiver = receiver; frames = s.frames }
+-- the activation under way waits with what is still to be done in it
+abbrev pub caller_of : {Work Counts : Type 0} → StateOver Work Counts → Receiver → CallerOver Work
+caller_of s receiver = record { routine = s.routine; temps = s.world.temps; waiting = s.world.waiting; made = s.world.made; work = s.work; receiver = receiver; frames = s.frames }
 
-abbrev pub begun : {Work Counts : Type 0} → Rules Work Counts → ℕ → Receiver → Work → List Handed → StateOver Work Counts → StateOver Work Counts
-begun rules r receiver work given s = charged_for rules.program (rules.program.charge r) s (λ t. record t {
+-- the stack is tested, and the routine is entered
+abbrev pub begun : {Work Counts : Type 0} → Rules Work Counts → ℕ → Receiver → List Handed → StateOver Work Counts → StateOver Work Counts
+begun rules r receiver given s = charged_for rules.program (rules.program.charge r) s (λ t. record t {
   world = entered rules.program r given t.world;
   routine = r;
   work = rules.body r;
   frames = [];
-  callers = caller_of t receiver work ∷ t.callers;
+  callers = caller_of t receiver ∷ t.callers;
 })
 
--- the paths of the arguments are followed first, and then the stack is tested
-abbrev pub called_with : {Work Counts : Type 0} → Rules Work Counts → ℕ → Receiver → Work → Option (List Handed) → StateOver Work Counts → StateOver Work Counts
-called_with rules r receiver work None s = with_work work (fails rules.program 201 s)
-called_with rules r receiver work (Some given) s = begun rules r receiver work given s
+-- ---- a result is received
 
-abbrev pub called : {Work Counts : Type 0} → Rules Work Counts → ℕ → List Given → Receiver → Work → StateOver Work Counts → StateOver Work Counts
-called rules r given receiver work s = called_with rules r receiver work (all_handed s.world given) s
-
--- ---- an activation returns
-
--- its result goes to a temporary of the caller
+-- by a temporary of the caller, or at a place
 abbrev pub received : Program → Receiver → Value → World → World
 received p nowhere v w = w
-received p (to_temp t) v w = with_temp t v w
+received p (to_temp t) v w = with_number t (number_in v) w
 received p (to_place of path) v w = at_place p.core (place_of w path) (λ q. with_value q v w) w
+
+-- ---- a call
+
+-- The next name is an instance whose fields are zero, and the receiver gets it; its constructor is entered next. ("Class instantiation".)
+abbrev pub makes : {Work Counts : Type 0} → Rules Work Counts → ClassId → ℕ → Receiver → List Handed → StateOver Work Counts → StateOver Work Counts
+makes rules c r receiver given s =
+    let n = s.world.next in
+    let made = with_value (all_of (object n)) (zero_instance rules.program.core c) (making (fields c Construction) s.world) in
+    with_frames (calling (a_routine r) nowhere (a_value (instance false (Some n)) ∷ given) [] ∷ construction n ∷ s.frames) (with_world (received rules.program receiver (instance false (Some n)) made) s)
+
+abbrev pub goes_in : {Work Counts : Type 0} → Rules Work Counts → Callee → Receiver → List Handed → StateOver Work Counts → StateOver Work Counts
+goes_in rules (a_routine r) receiver given s = begun rules r receiver given s
+goes_in rules (a_maker c r) receiver given s = makes rules c r receiver given s
+
+-- at once where nothing has to be emptied
+abbrev pub goes_in_behind : {Work Counts : Type 0} → Rules Work Counts → Callee → Receiver → List Handed → List Spot → StateOver Work Counts → StateOver Work Counts
+goes_in_behind rules callee receiver given [] s = goes_in rules callee receiver given s
+goes_in_behind rules callee receiver given (q ∷ qs) s = with_frames (calling callee receiver given (q ∷ qs) ∷ s.frames) s
+
+-- The paths of the arguments are followed first. Then places are emptied, one in a step, and then the stack is tested.
+abbrev pub called : {Work Counts : Type 0} → Rules Work Counts → Callee → List Given → Receiver → StateOver Work Counts → StateOver Work Counts
+called rules callee given receiver s =
+    at_reached rules.program (all_handed s.world given) (λ xs. goes_in_behind rules callee receiver xs (outs_of rules.program.core callee xs) s) s
+
+-- ---- an activation returns
 
 abbrev pub result_in : Program → ℕ → World → Value
 result_in p r w = w.memory (local w.depth (result_of_routine p.core r))
@@ -140,7 +179,7 @@ result_in p r w = w.memory (local w.depth (result_of_routine p.core r))
 -- the caller goes on
 abbrev pub gone_back : {Work Counts : Type 0} → Program → CallerOver Work → List (CallerOver Work) → StateOver Work Counts → StateOver Work Counts
 gone_back p c cs s = discharged (p.charge s.routine) (record s {
-  world = received p c.receiver (result_in p s.routine s.world) (record s.world { temps = c.temps; made = c.made; depth = s.world.depth - 1 });
+  world = received p c.receiver (result_in p s.routine s.world) (record s.world { temps = c.temps; waiting = c.waiting; made = c.made; depth = s.world.depth - 1 });
   routine = c.routine;
   work = c.work;
   frames = c.frames;

@@ -10,7 +10,7 @@ use Rattle.op_meaning.specs.Calls.{env_of}
 use Rattle.op_meaning.specs.Demands.{Demand, nothing, block, demand, size_of}
 use Rattle.op_meaning.specs.Expressions.{first_here, result_of}
 use Rattle.op_meaning.specs.Frames.{Program, State, Frame, Caller}
-use Rattle.op_meaning.specs.Items.{Given, by_value, by_reference, by_place, by_copy, Item, act, also, choose, select, loop, body_first, protect, leave, enter, scoped, attempt, throw, rethrow, halt, construct, free, Items, none, then_do, Turns, turns, Cases, no_cases, cases, Clauses, no_clauses, for_others, clauses, Task, item, mark, turn, finally, resume, catching, scope, handling, leaving, ending, due}
+use Rattle.op_meaning.specs.Items.{Given, by_value, by_place, by_copy, Item, act, also, choose, select, loop, body_first, protect, leave, enter, scoped, attempt, throw, rethrow, halt, construct, free, Items, none, then_do, Turns, turns, Cases, no_cases, cases, Clauses, no_clauses, for_others, clauses, Task, item, mark, turn, finally, resume, catching, scope, handling, leaving, ending, due}
 use Rattle.op_meaning.specs.Machine.{step}
 use Rattle.op_meaning.specs.Paths.{Path, Step, field, element}
 use Rattle.op_meaning.specs.Primitives.{bytes_besides, operands_bytes}
@@ -60,7 +60,6 @@ action_bytes core (primitive p operands to) = bytes_besides p + operands_bytes o
 
 abbrev pub given_bytes : Core → Given → ℕ
 given_bytes core (by_value kind t) = numbers 1
-given_bytes core (by_reference t) = numbers 1
 given_bytes core (by_place path) = numbers 1 + indices path
 given_bytes core (by_copy of path) = size_of core of + indices path
 
@@ -76,11 +75,11 @@ item_bytes core (leave what) = numbers 1
 item_bytes core (enter r given receiver) = sum_by (given_bytes core) given
 item_bytes core (scoped t ts items) = numbers 1
 item_bytes core (attempt items cs) = numbers 1
-item_bytes core (throw t) = numbers 1
+item_bytes core (throw at) = numbers 1 + indices at
 item_bytes core rethrow = numbers 1
 item_bytes core (halt t) = numbers 1
-item_bytes core (construct c r given to) = sum_by (given_bytes core) given
-item_bytes core (free takes_nil t) = numbers 1
+item_bytes core (construct c r given receiver) = sum_by (given_bytes core) given
+item_bytes core (free takes_nil at) = numbers 1 + indices at
 
 abbrev pub task_bytes : Core → Task → ℕ
 task_bytes core (item i) = item_bytes core i
@@ -139,11 +138,11 @@ abbrev mutual
   calls_at (enter r given receiver) = 1
   calls_at (scoped t ts is) = calls_in is
   calls_at (attempt is cs) = calls_in is + calls_in_clauses cs
-  calls_at (throw t) = 0
+  calls_at (throw at) = 0
   calls_at rethrow = 0
   calls_at (halt t) = 0
-  calls_at (construct c r given to) = 1
-  calls_at (free takes_nil t) = 0
+  calls_at (construct c r given receiver) = 1
+  calls_at (free takes_nil at) = 0
 
   pub calls_in_turns : Turns → ℕ
   calls_in_turns (turns head t ends between body) = calls_in head + calls_in between + calls_in body

@@ -5,15 +5,17 @@ use Rattle.op_core.specs.Rows.{rows}
 use Rattle.op_core.specs.declared.class.Class.{Class as ClassRow}
 use Rattle.op_core.specs.declared.class.Method.{Method}
 use Rattle.op_core.specs.declared.ids.ClassId.{ClassId}
+use Rattle.op_core.specs.declared.ids.VariableId.{VariableId}
 use Rattle.op_core.specs.declared.program.Core.{Core}
 use Rattle.op_core.specs.declared.routine.Routine.{Routine}
-use Rattle.op_meaning.specs.Calls.{a_value, begun}
-use Rattle.op_meaning.specs.Frames.{StateOver, Rules, Over, a_place, an_array, a_temporary, Frame, walk, destruction, construction, closing, Started, Pending, finalize, empty_global, with_world, with_frames, popped, fails}
-use Rattle.op_meaning.specs.Holding.{is_held}
-use Rattle.op_meaning.specs.Items.{nowhere}
-use Rattle.op_meaning.specs.Losing.{ends_place, is_empty_value, is_managed_value}
-use Rattle.op_meaning.specs.Values.{instance, Place, global, object, all_of}
-use Rattle.op_meaning.specs.World.{World, Temporary, Object, gone, fields, Phase, Live, Destruction, Dead, Ended, with_object}
+use Rattle.op_meaning.specs.Calls.{begun, goes_in}
+use Rattle.op_meaning.specs.Frames.{StateOver, Rules, Over, an_array, a_temporary, Frame, walk, destruction, construction, closing, Started, Pending, finalize, empty_global, with_world, with_frames, popped, fails, Callee, Handed, a_value, a_part, uncharged, calling, frame_charge, charged_for}
+use Rattle.op_meaning.specs.Holding.{is_held, any_below}
+use Rattle.op_meaning.specs.Items.{nowhere, Receiver}
+use Rattle.op_meaning.specs.Losing.{ends_place}
+use Rattle.op_meaning.specs.Shapes.{type_of_variable}
+use Rattle.op_meaning.specs.Values.{instance, global, object, all_of, Value, number, parts, text, line, array, empty, Spot}
+use Rattle.op_meaning.specs.World.{World, Temporary, Object, gone, fields, Phase, Live, Destruction, Dead, Ended, with_object, class_of}
 use Rattle.op_tree.specs.declared.heading.RoutineKind.{RoutineKind}
 use Rattle.op_tree.specs.declared.heading.RoutineKind.TheVariants.{Destructor}
 
@@ -24,11 +26,11 @@ without_last [] = []
 without_last (t ∷ made) = made
 
 abbrev given_up : {Work Counts : Type 0} → Over → StateOver Work Counts → StateOver Work Counts
-given_up a_place s = s
+given_up a_part s = s
 given_up (an_array n) s = with_world (with_object n gone s.world) s
 given_up a_temporary s = with_world (record s.world { made = without_last s.world.made }) s
 
-abbrev pub walked : {Work Counts : Type 0} → Rules Work Counts → List Place → Over → Option ℕ → List Frame → StateOver Work Counts → StateOver Work Counts
+abbrev pub walked : {Work Counts : Type 0} → Rules Work Counts → List Spot → Over → Option ℕ → List Frame → StateOver Work Counts → StateOver Work Counts
 walked rules [] over waits rest s = popped waits rest (given_up over s)
 walked rules (q ∷ qs) over waits rest s = ends_place rules q (with_frames (walk qs over waits ∷ rest) s)
 
@@ -62,44 +64,72 @@ destructor_within (suc n) core c = destructor_by (destructor_within n core) core
 abbrev pub destructor_of : Core → ClassId → Option ℕ
 destructor_of core c = destructor_within (suc (length core.classes)) core c
 
-abbrev class_under : Object → ClassId
-class_under (fields c phase) = c
-class_under _ = record { 0 = 0 }
-
-abbrev pub class_of : World → ℕ → ClassId
-class_of w i = class_under (w.objects i)
-
 abbrev pub in_phase : Phase → ℕ → World → World
 in_phase phase i w = with_object i (fields (class_of w i) phase) w
 
 abbrev enters_destroy : {Work Counts : Type 0} → Rules Work Counts → ℕ → Option ℕ → StateOver Work Counts → StateOver Work Counts
 enters_destroy rules i None s = s
-enters_destroy rules i (Some r) s = begun rules r nowhere s.work (a_value (instance false (Some i)) ∷ []) s
+enters_destroy rules i (Some r) s = begun rules r nowhere (a_value (instance false (Some i)) ∷ []) s
+
+abbrev is_empty_value : Value → Bool
+is_empty_value (number n) = true
+is_empty_value (parts count part) = not (any_below count (λ k. not (is_empty_value (part k))))
+is_empty_value (text empty) = true
+is_empty_value (text t) = false
+is_empty_value (line n) = false
+is_empty_value (array None) = true
+is_empty_value (array (Some n)) = false
+is_empty_value (instance holds None) = true
+is_empty_value (instance holds (Some n)) = not holds
 
 -- the instance has no holder, and no field was filled again
 abbrev pub may_die : {Work Counts : Type 0} → Rules Work Counts → ℕ → StateOver Work Counts → Bool
-may_die rules i s = not (is_held rules s i) && (not (is_managed_value (s.world.memory (object i))) || is_empty_value (s.world.memory (object i)))
+may_die rules i s = not (is_held rules s i) && is_empty_value (s.world.memory (object i))
 
 -- Destroy is entered, then the fields end, ancestors' fields first, and then the instance is dead, or the pointer is invalid
-abbrev pub destroyed : {Work Counts : Type 0} → Rules Work Counts → ℕ → Started → Bool → List Place → Option ℕ → List Frame → StateOver Work Counts → StateOver Work Counts
+abbrev pub destroyed : {Work Counts : Type 0} → Rules Work Counts → ℕ → Started → Bool → List Spot → Option ℕ → List Frame → StateOver Work Counts → StateOver Work Counts
 destroyed rules i started false places waits rest s =
-    enters_destroy rules i (destructor_of rules.program.core (class_of s.world i)) (with_frames (destruction i started true places waits ∷ rest) (with_world (in_phase Destruction i s.world) s))
+    enters_destroy rules i (destructor_of rules.program.core (class_of s.world i)) (with_frames (destruction i started true places waits ∷ rest) s)
 destroyed rules i started true (q ∷ qs) waits rest s = ends_place rules q (with_frames (destruction i started true qs waits ∷ rest) s)
 destroyed rules i started true [] waits rest s =
     if may_die rules i s then popped waits rest (with_world (in_phase Dead i s.world) s) else fails rules.program 204 s
 
+-- ---- the charge of a walk or a destruction is taken, and the instance is in destruction
+
+abbrev charged_world : Frame → World → World
+charged_world (walk places over waits) w = w
+charged_world (destruction i started entered places waits) w = in_phase Destruction i w
+charged_world (uncharged frame) w = w
+charged_world (calling callee receiver given outs) w = w
+charged_world (construction i) w = w
+charged_world (closing status) w = w
+
+abbrev pub charged_frame : {Work Counts : Type 0} → Rules Work Counts → Frame → List Frame → StateOver Work Counts → StateOver Work Counts
+charged_frame rules frame rest s = charged_for rules.program frame_charge s (λ t. with_frames (frame ∷ rest) (with_world (charged_world frame t.world) t))
+
+-- ---- a call goes on: one place is emptied in a step, and then what is called is entered
+
+abbrev pub calls_on : {Work Counts : Type 0} → Rules Work Counts → Callee → Receiver → List Handed → List Spot → List Frame → StateOver Work Counts → StateOver Work Counts
+calls_on rules callee receiver given [] rest s = goes_in rules callee receiver given (with_frames rest s)
+calls_on rules callee receiver given (q ∷ qs) rest s = ends_place rules q (with_frames (calling callee receiver given qs ∷ rest) s)
+
 -- ---- the closing
+
+abbrev global_spot : Core → VariableId → Spot
+global_spot core v = record { at = all_of (global v.0); of = type_of_variable core v.0 }
 
 -- finalization parts and globals, each taken once; then the program ends
 abbrev pub closed : {Work Counts : Type 0} → Rules Work Counts → ℕ → List Pending → StateOver Work Counts → StateOver Work Counts
 closed rules status [] s = with_world (record s.world { ending = Ended status }) s
-closed rules status (finalize r ∷ pending) s = begun rules r.0 nowhere s.work [] (record s { pending = pending })
-closed rules status (empty_global v ∷ pending) s = ends_place rules (all_of (global v.0)) (record s { pending = pending })
+closed rules status (finalize r ∷ pending) s = begun rules r.0 nowhere [] (record s { pending = pending })
+closed rules status (empty_global v ∷ pending) s = ends_place rules (global_spot rules.program.core v) (record s { pending = pending })
 
 -- ---- a frame acts
 
 abbrev pub framed : {Work Counts : Type 0} → Rules Work Counts → Frame → List Frame → StateOver Work Counts → StateOver Work Counts
 framed rules (walk places over waits) rest s = walked rules places over waits rest s
 framed rules (destruction i started entered places waits) rest s = destroyed rules i started entered places waits rest s
+framed rules (uncharged frame) rest s = charged_frame rules frame rest s
+framed rules (calling callee receiver given outs) rest s = calls_on rules callee receiver given outs rest s
 framed rules (construction i) rest s = with_frames rest (with_world (in_phase Live i s.world) s)
 framed rules (closing status) rest s = closed rules status s.pending s

@@ -1,7 +1,7 @@
 -- How an expression becomes items. Operands are evaluated from the left to the right; the value of an expression goes to the first
 -- temporary that is free, or stays in its place where only a part of it is looked at. (Free Pascal Reference Guide, "Expressions".)
 use Rattle.std.specs.Prelude.{length, ℕ, ◌+◌, ℤ, pos, negsuc, Bool, true, false, List, [], ◌∷◌, Option, Some, None, slice_get, if◌then◌else◌}
-use Rattle.op_core.specs.Expression.{Expression, expression, Root as Start, constant as fixed, variable, object, call, construct as constructed, set as bracketed, Steps, no_steps, steps, Action as Doing, convert, bracket, field, index, prefixed, operate, apply, Elements, no_elements, elements, Element as Member, one, range, Arguments, no_arguments, arguments, Argument, value, place}
+use Rattle.op_core.specs.Expression.{Expression, expression, Root as Start, constant as fixed, variable, object, call, construct as constructed, set as bracketed, Steps, no_steps, steps, Action as Doing, convert, bracket, field, index, prefixed, operate, apply, Elements, no_elements, elements, Element as Member, one, range, Arguments, no_arguments, arguments, Argument, value, place, array, listed}
 use Rattle.op_core.specs.Sizes.{type_at, range_of, values_of}
 use Rattle.op_core.specs.Typing.{type_of, type_after}
 use Rattle.op_core.specs.declared.constant.Const.{Const}
@@ -17,7 +17,7 @@ use Rattle.op_core.specs.declared.types.CoreType.{CoreType}
 use Rattle.op_core.specs.declared.types.CoreType.TheVariants.{Integer, Boolean, Char, Set, Array}
 use Rattle.op_core.specs.declared.types.IntegerKind.TheVariants.{Unsigned8, Signed32}
 use Rattle.op_meaning.specs.Actions.{Action, constant, load, copy, look, arithmetic, compare, negate, complement, invert, absolute, odd, upper, pick, low_bits, check, neighbour, single as lone, span, combine, contains, check_set}
-use Rattle.op_meaning.specs.Items.{Given, by_value, by_reference, by_place, by_copy, Receiver, nowhere, to_temp, to_place, act, also, enter, construct, Items, none, then_do, ◌&◌, only, acts}
+use Rattle.op_meaning.specs.Items.{Given, by_value, by_place, by_copy, Receiver, nowhere, to_temp, to_place, act, also, enter, construct, Items, none, then_do, ◌&◌, only, acts}
 use Rattle.op_meaning.specs.Numbers.{between}
 use Rattle.op_meaning.specs.Paths.{Path, Step, field as part_field, element as part_element, in_temporary, path_to, with_step, root_of}
 use Rattle.op_meaning.specs.Sets.{set_of, set_of_elements}
@@ -231,8 +231,8 @@ of_constant (Text bytes) t = found none (a_text bytes)
 of_constant NilOf t = found none ready
 
 abbrev pub receiver_by : Shape → TypeId → Here → Receiver
-receiver_by composite of here = to_place of (whole_path of here)
-receiver_by _ of here = to_temp here.temp
+receiver_by (single kind) of here = to_temp here.temp
+receiver_by _ of here = to_place of (whole_path of here)
 
 abbrev pub receiver_of : Core → Option TypeId → Here → Receiver
 receiver_of core None here = nowhere
@@ -245,8 +245,7 @@ result_of (Some r) = r.result
 -- what a value parameter is given ("Value parameters")
 abbrev pub given_by : Shape → TypeId → Here → Given
 given_by (single kind) of here = by_value kind here.temp
-given_by composite of here = by_copy of (whole_path of here)
-given_by _ of here = by_reference here.temp
+given_by _ of here = by_copy of (whole_path of here)
 
 -- what is done for the arguments of a call, and what its parameters are then given
 pub record AllPassed : Type 0 where
@@ -280,7 +279,7 @@ abbrev mutual
       found (passing.items & only (enter r.0 passing.given (receiver_of env.core (result_of (slice_get env.core.routines r.0)) here))) ready
   find_root env here of (constructed c r given) =
       let passing = pass env (past_whole here) given in
-      found (passing.items & only (construct c r.0 passing.given here.temp)) ready
+      found (passing.items & only (construct c r.0 passing.given (to_place of (whole_path of here)))) ready
   find_root env here of (bracketed es) = found (then_do (act (constant here.temp (pos 0))) (gather env here es)) ready
   find_root env here of _ = found none ready
 
@@ -321,4 +320,5 @@ abbrev mutual
   pub pass_one : Env → Here → Argument → OnePassed
   pass_one env here (value e) = let f = make env here e in record { items = f.items; given = given_by (shape_of env.core (type_of e)) (type_of e) here; used = 1 }
   pass_one env here (place e) = let f = find env here e in record { items = f.items; given = by_place (path_of (type_of e) here f.now); used = f.used }
-  pass_one env here _ = record { items = none; given = by_reference here.temp; used = 0 }
+  pass_one env here (array e) = let f = find env here e in record { items = f.items; given = by_place (path_of (type_of e) here f.now); used = f.used }
+  pass_one env here (listed of es) = record { items = none; given = by_copy of (whole_path of here); used = 0 }

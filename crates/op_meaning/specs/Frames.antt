@@ -1,10 +1,11 @@
 -- The state of a program that runs: the activation under way with what is still to be done in it, the activations that wait for it,
 -- and on each of them what has to be ended before it goes on. (Free Pascal Reference Guide, "Using functions and procedures",
 -- "Managed types", "Class destruction", "Exceptions" and "Programs, units, blocks".)
-use Rattle.std.specs.Prelude.{ℕ, ◌+◌, ◌-◌, min, Bool, List, ◌∷◌, Option, Some, None, slice_get, nat_lt, if◌then◌else◌}
+use Rattle.std.specs.Prelude.{ℕ, ◌+◌, ◌-◌, min, Bool, List, ◌∷◌, Option, Some, None, slice_get, nat_lt, if◌then◌else◌, ℤ}
 use Rattle.std.specs.Option.{option_map}
 use Rattle.op_core.specs.Initial.{FirstValue, first_value_of}
 use Rattle.op_core.specs.Statement.{Statements, no_statements, stmts_of}
+use Rattle.op_core.specs.declared.ids.ClassId.{ClassId}
 use Rattle.op_core.specs.declared.ids.RoutineId.{RoutineId}
 use Rattle.op_core.specs.declared.ids.VariableId.{VariableId}
 use Rattle.op_core.specs.declared.program.Core.{Core}
@@ -14,7 +15,7 @@ use Rattle.op_core.specs.declared.routine.Variable.{Variable}
 use Rattle.op_meaning.specs.Charge.{charge_of, most}
 use Rattle.op_meaning.specs.Errors.{failed}
 use Rattle.op_meaning.specs.Items.{Task, Receiver}
-use Rattle.op_meaning.specs.Values.{Value, Place}
+use Rattle.op_meaning.specs.Values.{Value, Place, Spot, Reached, reached, failing}
 use Rattle.op_meaning.specs.World.{World, Temporary}
 
 -- ---- programs
@@ -59,10 +60,20 @@ pub data Started : Type 0 where
   by_constructor : Started
   by_handler : Started
 
--- What a walk ends the parts of: a place; an array that was lost, which is gone when its walk is done; or the temporary that was made
--- last, which holds its parts until then.
+-- what is called: a routine, or a constructor that makes an instance of a class
+pub data Callee : Type 0 where
+  a_routine : (routine : ℕ) → Callee
+  a_maker : (class : ClassId) → (routine : ℕ) → Callee
+
+-- what is handed over: a value, or what a variable parameter stands for
+pub data Handed : Type 0 where
+  a_value : (value : Value) → Handed
+  a_place : (place : Place) → Handed
+
+-- What a walk ends the parts of: a part of something else; an array that was lost, which is gone when its walk is done; or the temporary
+-- that was made last, which holds its parts until then.
 pub data Over : Type 0 where
-  a_place : Over
+  a_part : Over
   an_array : (name : ℕ) → Over
   a_temporary : Over
 
@@ -70,10 +81,14 @@ pub data Over : Type 0 where
 -- done.
 pub data Frame : Type 0 where
   -- the places still to be ended, which keep their values until then
-  walk : (places : List Place) → (over : Over) → (waits : Option ℕ) → Frame
+  walk : (places : List Spot) → (over : Over) → (waits : Option ℕ) → Frame
   -- of an instance: whether Destroy was entered, and the fields still to be ended
-  destruction : (instance : ℕ) → (started : Started) → (entered : Bool) → (places : List Place) → (waits : Option ℕ) → Frame
-  -- its constructor is under way
+  destruction : (instance : ℕ) → (started : Started) → (entered : Bool) → (places : List Spot) → (waits : Option ℕ) → Frame
+  -- a walk or a destruction that is not charged yet
+  uncharged : (frame : Frame) → Frame
+  -- a call goes on: the places still to be emptied, and then what is called
+  calling : (callee : Callee) → (receiver : Receiver) → (given : List Handed) → (outs : List Spot) → Frame
+  -- its constructor is called, or under way
   construction : (instance : ℕ) → Frame
   -- the program ends with this status
   closing : (status : ℕ) → Frame
@@ -82,7 +97,8 @@ pub data Frame : Type 0 where
 -- frames on it; the same for each machine that runs a program, by what it has to do
 pub record CallerOver (Work : Type 0) : Type 0 where
   pub routine : ℕ
-  pub temps : ℕ → Value
+  pub temps : ℕ → ℤ
+  pub waiting : ℕ → Option ℕ
   pub made : List Temporary
   pub work : Work
   pub receiver : Receiver
@@ -138,6 +154,11 @@ with_frames frames s = record s { frames = frames }
 abbrev pub fails : {Work Counts : Type 0} → Program → ℕ → StateOver Work Counts → StateOver Work Counts
 fails p n s = with_world (failed p.core n s.world) s
 
+-- what is done with what is come to, or the error that is met on the way
+abbrev pub at_reached : {A Work Counts : Type 0} → Program → Reached A → (A → StateOver Work Counts) → StateOver Work Counts → StateOver Work Counts
+at_reached p (reached x) f s = f x
+at_reached p (failing error) f s = fails p error s
+
 -- ---- charges
 
 -- what a walk and a destruction are charged
@@ -151,9 +172,9 @@ charged_for p bytes s push = if nat_lt p.stack (s.charged + bytes) then fails p 
 abbrev pub discharged : {Work Counts : Type 0} → ℕ → StateOver Work Counts → StateOver Work Counts
 discharged bytes s = record s { charged = s.charged - bytes }
 
--- a walk or a destruction is pushed, and the exception under way waits in it
-abbrev pub pushed : {Work Counts : Type 0} → Program → (Option ℕ → Frame) → StateOver Work Counts → StateOver Work Counts
-pushed p frame s = charged_for p frame_charge s (λ t. with_frames (frame t.world.raised ∷ t.frames) (with_world (record t.world { raised = None }) t))
+-- a walk or a destruction is put on top, and the exception under way waits in it; its first step takes its charge
+abbrev pub pushed : {Work Counts : Type 0} → (Option ℕ → Frame) → StateOver Work Counts → StateOver Work Counts
+pushed frame s = with_frames (uncharged (frame s.world.raised) ∷ s.frames) (with_world (record s.world { raised = None }) s)
 
 -- a walk or a destruction is done, and what waits in it is under way again
 abbrev pub popped : {Work Counts : Type 0} → Option ℕ → List Frame → StateOver Work Counts → StateOver Work Counts

@@ -10,11 +10,10 @@ use Rattle.op_meaning.specs.Actions.{Action}
 use Rattle.op_meaning.specs.Paths.{Path, Root}
 use Rattle.op_meaning.specs.World.{Temporary}
 
--- what a parameter is given: the low bits of a number, another value, a place, or a copy of what stands at a place ("Value
--- parameters", "Variable parameters", "Out parameters" and "Constant parameters")
+-- what a parameter is given: the low bits of a number, a place, or a copy of what stands at a place ("Value parameters", "Variable
+-- parameters", "Out parameters" and "Constant parameters")
 pub data Given : Type 0 where
   by_value : (kind : IntegerKind) → (temp : ℕ) → Given
-  by_reference : (temp : ℕ) → Given
   by_place : (path : Path) → Given
   by_copy : (of : TypeId) → (path : Path) → Given
 
@@ -45,14 +44,14 @@ mutual
     scoped : (first : Temporary) → (others : List Temporary) → (items : Items) → Item
     -- a part with handlers
     attempt : (items : Items) → (clauses : Clauses) → Item
-    -- raises the instance in a temporary, or again that of the handler
-    throw : (temp : ℕ) → Item
+    -- raises the instance at a place, or again that of the handler
+    throw : (at : Path) → Item
     rethrow : Item
     halt : (temp : ℕ) → Item
-    -- a constructor is called on a class, and the instance goes to a temporary
-    construct : (class : ClassId) → (routine : ℕ) → (given : List Given) → (to : ℕ) → Item
-    -- Free of the instance in a temporary; `takes_nil` says that nil is left alone
-    free : (takes_nil : Bool) → (temp : ℕ) → Item
+    -- a constructor is called on a class, and the instance goes to a receiver
+    construct : (class : ClassId) → (routine : ℕ) → (given : List Given) → (receiver : Receiver) → Item
+    -- Free of the instance at a place; `takes_nil` says that nil is left alone
+    free : (takes_nil : Bool) → (at : Path) → Item
 
   pub data Items : Type 0 where
     none : Items

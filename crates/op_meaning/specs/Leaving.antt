@@ -45,7 +45,7 @@ name_in _ = None
 
 -- the exception that waits is under way again
 abbrev pub raised_again : {Work Counts : Type 0} → ℕ → Work → StateOver Work Counts → StateOver Work Counts
-raised_again t work s = record s { world = record s.world { raised = name_in (s.world.temps t) }; work = work }
+raised_again t work s = record s { world = record s.world { raised = s.world.waiting t }; work = work }
 
 -- what was left goes on, and where nothing was, so does what follows
 abbrev pub resumed : ℤ → ℕ → List Task → State → State

@@ -20,6 +20,7 @@ pub mod Primitives
 pub mod Sets
 pub mod Shapes
 pub mod Source
+pub mod Spots
 pub mod Start
 pub mod Statements
 pub mod Texts

@@ -4,21 +4,20 @@
 use Rattle.std.specs.Prelude.{ℕ, zero, suc, ℤ, pos, unsigned_abs, Bool, true, false, List, [], ◌∷◌, Option, Some, None, if◌then◌else◌}
 use Rattle.std.specs.Int.{int_rem_euclid}
 use Rattle.std.specs.List.{list_any}
-use Rattle.op_core.specs.declared.ids.ClassId.{ClassId}
 use Rattle.op_core.specs.declared.statement.Label.{Label}
 use Rattle.op_meaning.specs.Actions.{perform}
-use Rattle.op_meaning.specs.Calls.{Handed, a_value, all_handed, begun, called, gone_back, source_rules}
+use Rattle.op_meaning.specs.Calls.{called, gone_back, source_rules}
 use Rattle.op_meaning.specs.Ending.{framed}
-use Rattle.op_meaning.specs.Frames.{Program, StateOver, CallerOver, State, Rules, Frame, destruction, construction, by_free, finalize, with_work, with_world, with_frames, fails, pushed}
+use Rattle.op_meaning.specs.Frames.{Program, StateOver, CallerOver, State, Rules, Frame, by_free, finalize, with_work, with_world, with_frames, fails, a_routine, a_maker, at_reached}
 use Rattle.op_meaning.specs.Holding.{is_held}
-use Rattle.op_meaning.specs.Items.{Given, nowhere, Item, act, also, choose, select, loop, body_first, protect, leave, enter, scoped, attempt, throw, rethrow, halt, construct, free, Items, Turns, turns, head_of, body_of, Cases, no_cases, cases, Task, item, mark, turn, finally, resume, catching, scope, handling, leaving, ending, due, onto}
+use Rattle.op_meaning.specs.Items.{Item, act, also, choose, select, loop, body_first, protect, leave, enter, scoped, attempt, throw, rethrow, halt, construct, free, Items, Turns, turns, head_of, body_of, Cases, no_cases, cases, Task, item, mark, turn, finally, resume, catching, scope, handling, leaving, ending, due, onto}
 use Rattle.op_meaning.specs.Leaving.{left, resumed, name_in}
-use Rattle.op_meaning.specs.Losing.{ends_made, ends_place, freed, walk_over}
+use Rattle.op_meaning.specs.Losing.{ends_made, ends_place, freed, destroys, local_spot}
 use Rattle.op_meaning.specs.Numbers.{between, is_true}
-use Rattle.op_meaning.specs.Shapes.{zero_instance}
+use Rattle.op_meaning.specs.Paths.{Path, place_of}
 use Rattle.op_meaning.specs.Unwinding.{closes, unwound}
-use Rattle.op_meaning.specs.Values.{instance, local, object, all_of}
-use Rattle.op_meaning.specs.World.{World, Temporary, Object, fields, Construction, Live, Dead, Ending, Running, Ended, with_temp, with_number, with_value, number_at, making}
+use Rattle.op_meaning.specs.Values.{Reached, reached, and_then}
+use Rattle.op_meaning.specs.World.{World, Temporary, Object, fields, Live, Dead, Ending, Running, Ended, with_number, number_at, value_at}
 
 -- ---- choices ("The Case statement", "The If..then..else statement" and "Boolean operators")
 
@@ -71,21 +70,10 @@ handled_in (task ∷ work) = handled_in work
 
 -- ---- instances ("Class instantiation" and "Class destruction")
 
--- the next name is an instance whose fields are zero; its constructor is entered
-abbrev constructs_with : {Work Counts : Type 0} → Rules Work Counts → ClassId → ℕ → ℕ → Work → Option (List Handed) → StateOver Work Counts → StateOver Work Counts
-constructs_with rules c r to work None s = with_work work (fails rules.program 201 s)
-constructs_with rules c r to work (Some given) s =
-    let n = s.world.next in
-    let made = with_value (all_of (object n)) (zero_instance rules.program.core c) (making (fields c Construction) s.world) in
-    begun rules r nowhere work (a_value (instance false (Some n)) ∷ given) (with_frames (construction n ∷ s.frames) (with_world (with_temp to (instance false (Some n)) made) s))
-
-abbrev pub constructs : {Work Counts : Type 0} → Rules Work Counts → ClassId → ℕ → List Given → ℕ → Work → StateOver Work Counts → StateOver Work Counts
-constructs rules c r given to work s = constructs_with rules c r to work (all_handed s.world given) s
-
 -- what an interface holds, or what is under construction or destruction, is not freed
 abbrev frees_under : {Work Counts : Type 0} → Rules Work Counts → ℕ → Object → StateOver Work Counts → StateOver Work Counts
 frees_under rules i (fields c Live) s =
-    if is_held rules s i then fails rules.program 204 s else pushed rules.program (destruction i by_free false (walk_over (all_of (object i)) (s.world.memory (object i)))) s
+    if is_held rules s i then fails rules.program 204 s else destroys rules.program i c by_free s
 frees_under rules i (fields c Dead) s = fails rules.program 216 s
 frees_under rules i (fields c phase) s = fails rules.program 204 s
 frees_under rules i o s = fails rules.program 216 s
@@ -94,6 +82,10 @@ abbrev pub frees : {Work Counts : Type 0} → Rules Work Counts → Bool → Opt
 frees rules takes_nil (Some i) s = frees_under rules i (s.world.objects i) s
 frees rules true None s = s
 frees rules false None s = fails rules.program 216 s
+
+-- the name of the instance at a place
+abbrev pub instance_at : World → Path → Reached (Option ℕ)
+instance_at w at = and_then (place_of w at) (λ q. reached (name_in (value_at w q)))
 
 -- ---- the program's end
 
@@ -115,14 +107,14 @@ do_item p (loop l) work s = with_work (onto (head_of l) (turn l ∷ work)) s
 do_item p (body_first l) work s = with_work (onto (body_of l) (mark l ∷ work)) s
 do_item p (protect t is ts) work s = record s { world = with_number t (pos 0) s.world; work = onto is (finally t ts ∷ work) }
 do_item p (leave what) work s = left (suc what) work s
-do_item p (enter r given receiver) work s = called (source_rules p) r given receiver work s
+do_item p (enter r given receiver) work s = called (source_rules p) (a_routine r) given receiver (with_work work s)
 do_item p (scoped t ts is) work s = with_work (onto is (scope t ts ∷ work)) s
 do_item p (attempt is cs) work s = with_work (onto is (catching cs ∷ work)) s
-do_item p (throw t) work s = throws p (name_in (s.world.temps t)) work s
+do_item p (throw at) work s = at_reached p (instance_at s.world at) (λ n. throws p n work s) (with_work work s)
 do_item p rethrow work s = throws p (handled_in work) work s
 do_item p (halt t) work s = halts (number_at s.world t) (with_work work s)
-do_item p (construct c r given to) work s = constructs (source_rules p) c r given to work s
-do_item p (free takes_nil t) work s = frees (source_rules p) takes_nil (name_in (s.world.temps t)) (with_work work s)
+do_item p (construct c r given receiver) work s = called (source_rules p) (a_maker c r) given receiver (with_work work s)
+do_item p (free takes_nil at) work s = at_reached p (instance_at s.world at) (λ n. frees (source_rules p) takes_nil n (with_work work s)) (with_work work s)
 
 -- ---- tasks
 
@@ -137,7 +129,7 @@ do_task p (scope t ts) work s = ends_made (source_rules p) t (with_work (scope_o
 do_task p (handling i) work s = freed p i (with_work work s)
 do_task p (leaving reason) work s = left reason work s
 do_task p (ending [] result) work s = with_work work s
-do_task p (ending (v ∷ vs) result) work s = ends_place (source_rules p) (all_of (local s.world.depth v)) (with_work (ending vs result ∷ work) s)
+do_task p (ending (v ∷ vs) result) work s = ends_place (source_rules p) (local_spot p.core s v) (with_work (ending vs result ∷ work) s)
 do_task p (due f) work s = record s { work = work; pending = finalize f ∷ s.pending }
 
 -- an activation that has nothing more to do returns; below the last one the program ends

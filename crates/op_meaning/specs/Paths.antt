@@ -1,13 +1,13 @@
 -- Paths: how a program comes to a place. A path begins with a variable or a temporary and goes on by fields and elements; it is
 -- followed in the step that uses it, and each index is tested in its turn. (Free Pascal Reference Guide, "Record types", "Arrays" and
 -- "Variable parameters"; Programmer's Guide, "$R : Range checking".)
-use Rattle.std.specs.Prelude.{ℕ, ℤ, ◌-ℤ◌, nat_abs, List, [], ◌∷◌, ◌++◌, Option, Some, None, slice_get, if◌then◌else◌, ◌-◌}
+use Rattle.std.specs.Prelude.{ℕ, ℤ, ◌-ℤ◌, nat_abs, List, [], ◌∷◌, ◌++◌, slice_get, if◌then◌else◌, ◌-◌}
 use Rattle.op_core.specs.declared.ids.TypeId.{TypeId}
 use Rattle.op_core.specs.declared.ids.VariableId.{VariableId}
 use Rattle.op_core.specs.declared.program.Core.{Core}
 use Rattle.op_meaning.specs.Numbers.{between}
 use Rattle.op_meaning.specs.Shapes.{is_local, refers, variables_of}
-use Rattle.op_meaning.specs.Values.{Place, global, local, temporary, all_of, part_at}
+use Rattle.op_meaning.specs.Values.{Place, Reached, reached, failing, global, local, temporary, all_of, part_at}
 use Rattle.op_meaning.specs.World.{World, number_at}
 
 -- where a path begins: with a global variable, a variable of the activation under way, what its variable parameter stands for, or a
@@ -48,12 +48,12 @@ place_of_root w (in_local v) = all_of (local w.depth v)
 place_of_root w (through v) = w.bound w.depth v
 place_of_root w (in_temporary of n) = all_of (temporary w.depth of n)
 
--- to nowhere where an index is out of its range
-abbrev pub place_from : World → Place → List Step → Option Place
-place_from w p [] = Some p
+-- error 201 where an index is out of its range
+abbrev pub place_from : World → Place → List Step → Reached Place
+place_from w p [] = reached p
 place_from w p (field of k ∷ steps) = place_from w (part_at k p) steps
 place_from w p (element of low high t ∷ steps) =
-    if between low high (number_at w t) then place_from w (part_at (nat_abs (number_at w t -ℤ low)) p) steps else None
+    if between low high (number_at w t) then place_from w (part_at (nat_abs (number_at w t -ℤ low)) p) steps else failing 201
 
-abbrev pub place_of : World → Path → Option Place
+abbrev pub place_of : World → Path → Reached Place
 place_of w path = place_from w (place_of_root w path.root) path.steps

@@ -53,11 +53,11 @@ looks_for (leave what) = false
 looks_for (enter r given receiver) = false
 looks_for (scoped t ts items) = false
 looks_for (attempt items cs) = false
-looks_for (throw t) = false
+looks_for (throw at) = false
 looks_for rethrow = false
 looks_for (halt t) = false
-looks_for (construct c r given to) = false
-looks_for (free takes_nil t) = false
+looks_for (construct c r given receiver) = false
+looks_for (free takes_nil at) = false
 
 abbrev looks_in : List Task → Bool
 looks_in [] = false

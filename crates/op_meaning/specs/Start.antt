@@ -9,7 +9,7 @@ use Rattle.op_core.specs.declared.ids.RoutineId.{RoutineId}
 use Rattle.op_core.specs.declared.ids.VariableId.{VariableId}
 use Rattle.op_core.specs.declared.program.Core.{Core}
 use Rattle.op_core.specs.declared.program.Unit.{Unit as UnitRow}
-use Rattle.op_meaning.specs.Calls.{no_temps}
+use Rattle.op_meaning.specs.Calls.{no_temps, none_waiting}
 use Rattle.op_meaning.specs.Frames.{Program, State, Pending, empty_global}
 use Rattle.op_meaning.specs.Items.{nowhere, enter, Task, item, due}
 use Rattle.op_meaning.specs.Machine.{run_for}
@@ -52,6 +52,7 @@ unit_work u = entering u.initialization ++ becoming_due u.finalization
 abbrev pub first_world : Program → List ℕ → World
 first_world p input = record {
   temps = no_temps;
+  waiting = none_waiting;
   made = [];
   depth = 0;
   memory = first_memory p;

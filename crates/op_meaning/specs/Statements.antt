@@ -117,8 +117,8 @@ done_built_in env here (write items ends) = write_all env here items & line_end 
 done_built_in env here (count d target amount checked) = counted_at env here d target amount checked (find env here target.place)
 done_built_in env here (include s e) = changed_set env here Add (type_of s) e (find env here s)
 done_built_in env here (exclude s e) = changed_set env here Subtract (type_of s) e (find env here s)
-done_built_in env here (free_of e empties) = (make env here e).items & only (free true here.temp)
-done_built_in env here (destroy e) = (make env here e).items & only (free false here.temp)
+done_built_in env here (free_of e empties) = let f = find env here e in f.items & only (free true (path_of (type_of e) here f.now))
+done_built_in env here (destroy e) = let f = find env here e in f.items & only (free false (path_of (type_of e) here f.now))
 done_built_in env here _ = none
 
 -- ---- loops that count ("The For..to/downto..do statement")
@@ -200,7 +200,7 @@ abbrev mutual
   work_of env here (try_finally ss ts) = only (protect here.temp (work_of_all env (past 2 here) ss) (work_of_all env (past 2 here) ts))
   work_of env here (try_on ss hs) = only (attempt (work_of_all env here ss) (clauses_of env here hs no_clauses))
   work_of env here (try_on_else ss hs ts) = only (attempt (work_of_all env here ss) (clauses_of env here hs (for_others (work_of_all env here ts))))
-  work_of env here (raise e) = (make env here e).items & only (throw here.temp)
+  work_of env here (raise e) = let f = find env here e in f.items & only (throw (path_of (type_of e) here f.now))
   work_of env here reraise = only rethrow
   work_of env here (call e) = (find env here e).items
   work_of env here (assign target e) = assigned env here target e

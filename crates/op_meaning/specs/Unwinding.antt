@@ -7,15 +7,14 @@ use Rattle.op_core.specs.declared.ids.ClassId.{ClassId}
 use Rattle.op_core.specs.declared.program.Core.{Core}
 use Rattle.op_core.specs.declared.program.ExceptionClasses.{ExceptionClasses}
 use Rattle.op_meaning.specs.Calls.{gone_back_raising, source_rules}
-use Rattle.op_meaning.specs.Frames.{Program, StateOver, CallerOver, State, Frame, destruction, construction, closing, by_free, by_constructor, with_work, with_world, with_frames, pushed, fails}
+use Rattle.op_meaning.specs.Frames.{Program, StateOver, CallerOver, State, Frame, destruction, construction, closing, by_free, by_constructor, with_work, with_world, with_frames, fails}
 use Rattle.op_meaning.specs.Items.{Items, Clauses, no_clauses, for_others, clauses, Task, item, mark, turn, finally, resume, catching, scope, handling, leaving, ending, due, onto}
-use Rattle.op_meaning.specs.Leaving.{name_in}
-use Rattle.op_meaning.specs.Losing.{ends_made, ends_place, freed, walk_over}
+use Rattle.op_meaning.specs.Losing.{ends_made, ends_place, freed, destroys, local_spot}
 use Rattle.op_meaning.specs.Paths.{Root, place_of_root}
 use Rattle.op_meaning.specs.Shapes.{field_of_class}
 use Rattle.op_meaning.specs.Texts.{line_feed}
-use Rattle.op_meaning.specs.Values.{Value, text, instance, empty, literal, named, Text, local, object, all_of, part_of}
-use Rattle.op_meaning.specs.World.{World, Object, chars, fields, Dead, with_temp, with_number, with_value, number_at, reported}
+use Rattle.op_meaning.specs.Values.{Value, text, instance, empty, literal, named, Text, object, part_of}
+use Rattle.op_meaning.specs.World.{World, Object, chars, fields, Dead, with_number, with_value, number_at, reported, with_waiting, class_of}
 
 -- ---- classes ("Classes")
 
@@ -125,16 +124,16 @@ leaves_activation p e (c ∷ cs) s = gone_back_raising p c cs s
 
 abbrev pub unwound_at : Program → ℕ → List Task → State → State
 unwound_at p e (finally t ts ∷ work) s = record s {
-  world = record (with_temp (t + 1) (instance false (Some e)) (with_number t (pos 4) s.world)) { raised = None };
+  world = record (with_waiting (t + 1) e (with_number t (pos 4) s.world)) { raised = None };
   work = onto ts (resume t ∷ work);
 }
-unwound_at p e (resume t ∷ work) s = replaces p (number_at s.world t) (name_in (s.world.temps (t + 1))) (with_work work s)
+unwound_at p e (resume t ∷ work) s = replaces p (number_at s.world t) (s.world.waiting (t + 1)) (with_work work s)
 unwound_at p e (catching cs ∷ work) s = catches p e cs work s
 unwound_at p e (scope t [] ∷ work) s = ends_made (source_rules p) t (with_work work s)
 unwound_at p e (scope t (u ∷ ts) ∷ work) s = ends_made (source_rules p) t (with_work (scope u ts ∷ work) s)
 unwound_at p e (handling i ∷ work) s = freed p i (with_work work s)
-unwound_at p e (ending (v ∷ vs) result ∷ work) s = ends_place (source_rules p) (all_of (local s.world.depth v)) (with_work (ending vs result ∷ work) s)
-unwound_at p e (ending [] (Some v) ∷ work) s = ends_place (source_rules p) (all_of (local s.world.depth v)) (with_work (ending [] None ∷ work) s)
+unwound_at p e (ending (v ∷ vs) result ∷ work) s = ends_place (source_rules p) (local_spot p.core s v) (with_work (ending vs result ∷ work) s)
+unwound_at p e (ending [] (Some v) ∷ work) s = ends_place (source_rules p) (local_spot p.core s v) (with_work (ending [] None ∷ work) s)
 unwound_at p e (ending [] None ∷ work) s = with_work work s
 unwound_at p e _ s = leaves_activation p e s.callers s
 
@@ -145,7 +144,7 @@ unwound_at p e _ s = leaves_activation p e s.callers s
 abbrev pub unwound_frame : {Work Counts : Type 0} → Program → ℕ → Frame → List Frame → StateOver Work Counts → StateOver Work Counts
 unwound_frame p e (destruction i by_free entered places waits) rest s =
     with_frames (destruction i by_free entered places (Some e) ∷ rest) (with_world (record s.world { raised = None }) s)
-unwound_frame p e (construction i) rest s = pushed p (destruction i by_constructor false (walk_over (all_of (object i)) (s.world.memory (object i)))) (with_frames rest s)
+unwound_frame p e (construction i) rest s = destroys p i (class_of s.world i) by_constructor (with_frames rest s)
 unwound_frame p e frame rest s = unhandled p e s
 
 abbrev pub unwound_by : Program → ℕ → List Frame → State → State

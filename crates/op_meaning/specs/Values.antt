@@ -31,6 +31,10 @@ pub data Reached (A : Type 0) : Type 0 where
   reached : (value : A) → Reached A
   failing : (error : ℕ) → Reached A
 
+abbrev pub and_then : {A B : Type 0} → Reached A → (A → Reached B) → Reached B
+and_then (reached x) f = f x
+and_then (failing error) f = failing error
+
 abbrev pub number_in : Value → ℤ
 number_in (number n) = n
 number_in _ = pos 0
@@ -92,3 +96,8 @@ all_of h = record { holder = h; path = [] }
 
 abbrev pub part_at : ℕ → Place → Place
 part_at k p = record p { path = p.path ++ k ∷ [] }
+
+-- a place that has to be ended, by the type of what stands there
+pub record Spot : Type 0 where
+  pub at : Place
+  pub of : TypeId

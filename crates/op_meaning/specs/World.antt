@@ -1,9 +1,9 @@
 -- What actions read and change: the temporaries of the activation under way, what all variables hold, what stands under names, and
 -- the console. (Free Pascal Reference Guide, "Variables" and "Managed types"; User's Guide, "Run-time errors".)
-use Rattle.std.specs.Prelude.{ℕ, suc, ℤ, List, ◌++◌, Option, nat_eq, if◌then◌else◌}
+use Rattle.std.specs.Prelude.{ℕ, suc, ℤ, List, ◌++◌, Option, Some, nat_eq, if◌then◌else◌}
 use Rattle.op_core.specs.declared.ids.ClassId.{ClassId}
 use Rattle.op_core.specs.declared.ids.TypeId.{TypeId}
-use Rattle.op_meaning.specs.Values.{Value, number, Holder, Place, number_in, get, put, same_holder}
+use Rattle.op_meaning.specs.Values.{Value, Holder, Place, get, put, same_holder}
 
 -- how far an instance has come ("Class instantiation" and "Class destruction")
 pub data Phase : Type 0 where
@@ -33,8 +33,10 @@ pub data Ending : Type 0 where
   Ended : (status : ℕ) → Ending
 
 pub record World : Type 0 where
-  -- the temporaries of the activation under way that are numbers, or references to instances, which hold nothing
-  pub temps : ℕ → Value
+  -- the temporaries of the activation under way that are numbers; all others are holders
+  pub temps : ℕ → ℤ
+  -- the exceptions that wait behind its finally parts, by the number of a temporary
+  pub waiting : ℕ → Option ℕ
   -- those of its temporaries that have to be ended, the last one that was made first
   pub made : List Temporary
   -- how many activations are below it
@@ -55,14 +57,14 @@ pub record World : Type 0 where
 
 -- ---- temporaries
 
-abbrev pub with_temp : ℕ → Value → World → World
-with_temp t v w = record w { temps = λ u. if nat_eq u t then v else w.temps u }
-
 abbrev pub number_at : World → ℕ → ℤ
-number_at w t = number_in (w.temps t)
+number_at w t = w.temps t
 
 abbrev pub with_number : ℕ → ℤ → World → World
-with_number t n w = with_temp t (number n) w
+with_number t n w = record w { temps = λ u. if nat_eq u t then n else w.temps u }
+
+abbrev pub with_waiting : ℕ → ℕ → World → World
+with_waiting t e w = record w { waiting = λ u. if nat_eq u t then Some e else w.waiting u }
 
 -- ---- places
 
@@ -76,6 +78,13 @@ with_value p v w = record w { memory = λ h. if same_holder h p.holder then put 
 
 abbrev pub with_object : ℕ → Object → World → World
 with_object name o w = record w { objects = λ n. if nat_eq n name then o else w.objects n }
+
+abbrev class_under : Object → ClassId
+class_under (fields c phase) = c
+class_under _ = record { 0 = 0 }
+
+abbrev pub class_of : World → ℕ → ClassId
+class_of w i = class_under (w.objects i)
 
 -- the next name stands for this
 abbrev pub making : Object → World → World

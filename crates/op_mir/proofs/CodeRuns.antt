@@ -2,6 +2,7 @@
 use Rattle.std.specs.Prelude.{◌≡◌, ℕ, pos, [], ◌∷◌, codes}
 use Rattle.std.specs.Int.{int_wrap}
 use Rattle.std.proofs.Common.{refl}
+use Rattle.op_meaning.specs.Spots.{spots_from}
 use Rattle.op_simulation.specs.System.{run}
 use Rattle.op_core.specs.Statement.{if_then, for_to, try_finally, exit, break}
 use Rattle.op_core.specs.declared.ids.VariableId.{VariableId}
@@ -21,7 +22,7 @@ outcome_of m = record { output = m.world.output; errors = m.world.errors; ending
 
 -- of so many instructions without input
 unfoldable pub code_outcome : ℕ → Program → Outcome
-unfolding run mir_step mir_step_by mir_stepped mir_acted mir_done execute perform bits_below decimal_by int_wrap each any_below
+unfolding run mir_step mir_step_by mir_stepped mir_acted mir_done execute perform bits_below decimal_by int_wrap each any_below spots_from
 code_outcome n p = outcome_of (run (mir_machine (code_of p)) n (mir_start p []))
 
 abbrev i : VariableId

@@ -9,7 +9,6 @@ use Rattle.op_simulation.specs.System.{spent}
 use Rattle.op_simulation.proofs.Composition.{joins_equal}
 use Rattle.op_simulation.proofs.Paths.{path_step, stretch_of_path}
 use Rattle.op_simulation.proofs.Points.{agreement}
-use Rattle.op_core.specs.Initial.{FirstValue}
 use Rattle.op_core.specs.declared.ids.RoutineId.{RoutineId}
 use Rattle.op_core.specs.declared.ids.Run.{Run}
 use Rattle.op_core.specs.declared.program.Core.{Core}
@@ -18,22 +17,19 @@ use Rattle.op_meaning.specs.Actions.{Action, constant, load, store, copy, look, 
 use Rattle.op_meaning.specs.Costs.{numbers, action_bytes, given_bytes, work_bytes, cost}
 use Rattle.op_meaning.specs.Calls.{source_rules}
 use Rattle.op_meaning.specs.Ending.{closed}
-use Rattle.op_meaning.specs.Frames.{Program, State, Frame, Caller, Pending, walk, destruction, construction, closing, finalize, empty_global}
+use Rattle.op_meaning.specs.Frames.{Program, State, Frame, Caller, Pending, walk, destruction, construction, closing, finalize, empty_global, uncharged, calling}
 use Rattle.op_meaning.specs.Items.{nowhere, act, also, choose, select, loop, body_first, protect, leave, enter, scoped, attempt, throw, rethrow, halt, construct, free, Task, item, mark, turn, finally, resume, catching, scope, handling, leaving, ending, due}
 use Rattle.op_meaning.specs.Machine.{step, step_by, stepped, acted, done, do_task}
-use Rattle.op_meaning.specs.Start.{start, unit_work, first_memory}
-use Rattle.op_meaning.specs.Shapes.{type_of_variable}
-use Rattle.op_meaning.specs.Values.{Holder, global, local, temporary, object}
+use Rattle.op_meaning.specs.Start.{start, unit_work}
 use Rattle.op_meaning.specs.World.{World, Ending, Running, Ended}
 use Rattle.op_mir.specs.Code.{Instr, do_call, make_due, ret, Exits, routine_exits, unit_code, program_blocks, blocks_of, blocks_in, items_of}
 use Rattle.op_mir.specs.Going.{At, CallersGo, image, IsUnderWay, Goes}
 use Rattle.op_mir.specs.Machine.{code_of, code_rules, MirState, MirCaller, block_at, mir_acted, mir_stepped, mir_step_by, mir_step, mir_cost, mir_cost_by, charge_here, moved, instr_bytes, next_bytes, mir_machine, mir_start, shown_between}
 use Rattle.op_mir.specs.Managed.{managed, CodeFollows, CodeAgrees}
-use Rattle.op_mir.specs.Plain.{IsPlain, Exists, IfExists, ArePlainUnits, IsNameless, ArePlainFrames, ArePlainPending}
+use Rattle.op_mir.specs.Plain.{IsPlain, Exists, IfExists, ArePlainUnits, ArePlainFrames, ArePlainPending}
 use Rattle.op_mir.proofs.BlockLemmas.{has_from, at_block}
 use Rattle.op_mir.proofs.CallLemmas.{begun_goes, ended_goes, enter_goes, return_goes}
 use Rattle.op_mir.proofs.ItemLemmas.{act_goes, also_goes, choose_goes, select_goes, loop_goes, body_goes, head_goes, turn_goes, protect_goes, finally_goes, leave_item_goes, resume_goes, leaving_goes, scoped_goes, scope_goes, halt_goes, due_goes}
-use Rattle.op_mir.proofs.PlainLemmas.{no_more, nameless_zero, nameless_first}
 use Rattle.op_mir.proofs.ShownLemmas.{shown_none, looks_never, shows_between}
 use Rattle.op_mir.proofs.StepLemmas.{Here, Reaches, at_most, one_step, price, price_is, silent, under_way}
 
@@ -144,7 +140,7 @@ closing_goes p plain s ms rest status others is running under frames callers pen
     by (finalize r ∷ pd) e plain_pd =
         let s' = record s { pending = pd } in
         by_itself p s (closed (source_rules p) status (finalize r ∷ pd) s) ms m (closed (code_rules (code_of p)) status (finalize r ∷ pd) m) status others refl refl is running callers (steps_to ∙ ap (λ x. closed (code_rules (code_of p)) status x m) e)
-        (begun_goes p plain s' ms r.0 nowhere s.work [] under.out rest plain_pd.0 no_more under.world frames callers plain_pd.1 under.at)
+        (begun_goes p plain s' ms r.0 nowhere [] under.out rest plain_pd.0 under.world frames callers plain_pd.1 under.at)
     by (empty_global v ∷ pd) e plain_pd = absurd plain_pd
 
 -- ---- a step
@@ -162,6 +158,8 @@ frames_go p plain s ms rest (closing status ∷ others) is running under plain_f
     at_most p 3 3 0 (numbers 1) s (closed (source_rules p) status s.pending s) (image s rest ms) (omega arith) (omega arith) (closing_goes p plain s ms rest status others is running under (subst ArePlainFrames (sym is) plain_frames) callers pending)
 frames_go p plain s ms rest (walk places lost waits ∷ others) is running under plain_frames callers pending = absurd plain_frames
 frames_go p plain s ms rest (destruction i started entered places waits ∷ others) is running under plain_frames callers pending = absurd plain_frames
+frames_go p plain s ms rest (uncharged frame ∷ others) is running under plain_frames callers pending = absurd plain_frames
+frames_go p plain s ms rest (calling callee receiver given outs ∷ others) is running under plain_frames callers pending = absurd plain_frames
 frames_go p plain s ms rest (construction i ∷ others) is running under plain_frames callers pending = absurd plain_frames
 
 step_goes : (p : Program) → IsPlain p → (s : State) (m : MirState) → s.world.ending ≡ Running → Goes p s m → Reaches p 3 (acting p s s.frames) s (step p s) m
@@ -232,16 +230,6 @@ code_follows p plain = record { go = λ s m g. stretch p plain s m s.world.endin
 
 -- ---- the beginning
 
-nameless_global : (p : Program) (v : ℕ) (first : Option FirstValue) → p.first v ≡ first → IsNameless (first_memory p (global v))
-nameless_global p v None e = rw e (nameless_zero p.core (type_of_variable p.core v))
-nameless_global p v (Some value) e = rw e (nameless_first p.core (type_of_variable p.core v) value)
-
-nameless_memory : (p : Program) (h : Holder) → IsNameless (first_memory p h)
-nameless_memory p (global v) = nameless_global p v (p.first v) refl
-nameless_memory p (local d v) = tt
-nameless_memory p (temporary d of n) = tt
-nameless_memory p (object n) = tt
-
 -- the program itself enters the parts of its units
 module _ (p : Program) (bs : List (List Instr)) where
   at_enter : (r : ℕ) (work : List Task) (behind : List Instr) → Exists p r → At p bs routine_exits work behind → At p bs routine_exits (item (enter r [] nowhere) ∷ work) (do_call r [] nowhere None ∷ behind)
@@ -274,7 +262,7 @@ begins p plain input =
     let at = subst (λ x. At p x routine_exits (flat_map unit_work p.core.units) (block_at x 0)) (sym code) there in
     record {
       same = refl;
-      goes_on = λ running. record { world = record { raised = refl; made = refl; temps = λ t. tt; memory = nameless_memory p }; out = routine_exits; at = λ e. at };
+      goes_on = λ running. record { world = record { raised = refl; made = refl; waiting = λ t. refl }; out = routine_exits; at = λ e. at };
       frames = tt;
       callers = tt;
       pending = subst (ArePlainPending p) (sym plain.globals) tt;

@@ -3,6 +3,7 @@
 use Rattle.std.specs.Prelude.{◌≡◌, ℕ, zero, suc, pos, true, List, [], ◌∷◌, Some, codes, nat_eq, if◌then◌else◌}
 use Rattle.std.specs.Int.{int_wrap}
 use Rattle.std.proofs.Common.{refl}
+use Rattle.op_meaning.specs.Spots.{spots_from}
 use Rattle.op_simulation.specs.System.{run}
 use Rattle.op_core.specs.Types.{id}
 use Rattle.op_meaning.proofs.Programs.{own, core_of, runs}
@@ -25,7 +26,7 @@ pub record Left : Type 0 where
   pub ending : Ending
 
 unfoldable pub left_after : ℕ → Program → MirState → Left
-unfolding run mir_step mir_step_by mir_stepped mir_acted mir_done execute perform bits_below decimal_by int_wrap each any_below
+unfolding run mir_step mir_step_by mir_stepped mir_acted mir_done execute perform bits_below decimal_by int_wrap each any_below spots_from
 left_after n p m = left_of (run (mir_machine (code_of p)) n m)
   where
     left_of : MirState → Left
@@ -60,7 +61,7 @@ module _ (name : Name) where
   held_objects _ = gone
 
   -- its elements end in order: the string 1 is gone, 2 is held by the other global, and then the array is gone and the program has ended
-  array_ends : left_after 5 held_program (closes_with held_program held_memory held_objects 4) ≡ record { names = 2 ∷ []; output = []; ending = Ended 0 }
+  array_ends : left_after 6 held_program (closes_with held_program held_memory held_objects 4) ≡ record { names = 2 ∷ []; output = []; ending = Ended 0 }
   unfolding left_after
   array_ends = refl
 
@@ -76,7 +77,7 @@ module _ (name : Name) where
   instance_memory h = number (pos 0)
 
   -- the destructor is called as any routine is, and then the instance is dead
-  instance_ends : left_after 10 class_program (closes_with class_program instance_memory (λ n. if nat_eq n 1 then fields (record { 0 = 2 }) Live else gone) 2)
+  instance_ends : left_after 12 class_program (closes_with class_program instance_memory (λ n. if nat_eq n 1 then fields (record { 0 = 2 }) Live else gone) 2)
       ≡ record { names = []; output = codes "d"; ending = Ended 0 }
   unfolding left_after
   instance_ends = refl

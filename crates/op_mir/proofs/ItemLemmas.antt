@@ -8,7 +8,7 @@ use Rattle.op_meaning.specs.Actions.{Action, constant, perform}
 use Rattle.op_meaning.specs.Calls.{source_rules}
 use Rattle.op_meaning.specs.Frames.{Program, StateOver, Rules, State, closing, with_work, with_frames}
 use Rattle.op_meaning.specs.Items.{act, also, choose, select, loop, body_first, protect, leave, scoped, halt, Items, Turns, turns, head_of, body_of, Cases, no_cases, cases, Task, item, mark, turn, finally, resume, catching, scope, handling, leaving, ending, due, onto}
-use Rattle.op_meaning.specs.Leaving.{left, resumed, name_in}
+use Rattle.op_meaning.specs.Leaving.{left, resumed}
 use Rattle.op_meaning.specs.Losing.{ends_among, ends_made}
 use Rattle.op_meaning.specs.Machine.{do_item, do_task, scope_on, turned, another_turn, selected, label_has, low_eight}
 use Rattle.op_meaning.specs.Numbers.{is_true, wrapped}
@@ -19,7 +19,7 @@ use Rattle.op_mir.specs.Going.{Has, Comes, LoopStands, FinallyStands, At, image,
 use Rattle.op_mir.specs.Machine.{code_of, code_rules, MirState, MirCaller, block_at, block_or, go_to, go_if, arm_for, dispatched, moved, execute}
 use Rattle.op_mir.specs.Plain.{IsPlain, ArePlain, ArePlainTurns, ArePlainCases, IsWay, IsPlainWorld, ArePlainFrames}
 use Rattle.op_mir.proofs.BlockLemmas.{has_front, has_back, at_continued, at_block, at_onto}
-use Rattle.op_mir.proofs.PlainLemmas.{plain_perform, plain_number, name_in_nameless}
+use Rattle.op_mir.proofs.PlainLemmas.{plain_perform, plain_number}
 use Rattle.op_mir.proofs.ShownLemmas.{shown_none}
 use Rattle.op_mir.proofs.StepLemmas.{Reaches, Here, Steps, one, quiet, silent, before, at_most, come, advance, goes_at, goes_with, if_goes}
 
@@ -318,14 +318,11 @@ resume_goes p s ms t out work rest h (k, behind, comes, hs, at) = by (number_at 
         at_most p (1 + (1 + 1)) 3 0 0 s (left (suc n) work s) (image s rest ms) (omega arith) (omega arith)
         (come p (1 + 1) 0 s (left (suc n) work s) ms rest (dispatch t k ∷ behind) h comes r)
 
-    -- no instance waits
-    raised_none : name_in (s.world.temps (t + 1)) ≡ None
-    raised_none = name_in_nameless (s.world.temps (t + 1)) (h.world.temps (t + 1))
-
+    -- nothing waits
     again : number_at s.world t ≡ pos 4 → Reaches p 3 0 s (resumed (pos 4) t work s) (image s rest ms)
     again e =
-        let w = record s.world { raised = name_in (s.world.temps (t + 1)) } in
-        let plain : IsPlainWorld w = record { raised = raised_none; made = h.world.made; temps = h.world.temps; memory = h.world.memory } in
+        let w = record s.world { raised = s.world.waiting (t + 1) } in
+        let plain : IsPlainWorld w = record { raised = h.world.waiting (t + 1); made = h.world.made; waiting = h.world.waiting } in
         let u = record s { world = w; work = work } in
         at_most p (1 + 0) 3 0 0 s u (image s rest ms) (omega arith) (omega arith)
         (come p 0 0 s u ms rest (dispatch t k ∷ behind) h comes

@@ -1,12 +1,12 @@
 -- A program of the plain class, so its code goes along with it.
-use Rattle.std.proofs.Common.{◌≡◌, ℕ, zero, suc, ◌+◌, [], ◌∷◌, Option, Some, None, refl, rules}
+use Rattle.std.proofs.Common.{◌≡◌, ℕ, zero, suc, ◌+◌, [], ◌∷◌, Option, Some, None, refl, rules, slice_get}
 use Rattle.std.specs.Prelude.{pos, codes}
 use Rattle.op_core.specs.Initial.{FirstValue}
 use Rattle.op_core.specs.Statement.{if_then, for_to, try_finally, break}
 use Rattle.op_core.specs.declared.ids.VariableId.{VariableId}
 use Rattle.op_meaning.proofs.Programs.{var, num, test, listed, line, shown, text, own, core_of, runs}
 use Rattle.op_meaning.specs.Actions.{begin_with}
-use Rattle.op_meaning.specs.Calls.{env_of, ending_of}
+use Rattle.op_meaning.specs.Calls.{env_of, ending_of, emptied_type}
 use Rattle.op_meaning.specs.Expressions.{first_here}
 use Rattle.op_meaning.specs.Frames.{Program}
 use Rattle.op_meaning.specs.Items.{act, Items, none, then_do, ◌&◌}
@@ -63,11 +63,16 @@ module _ (name : Name) where
   ends zero = refl
   ends (suc r) = refl
 
+  empties : (v : ℕ) → emptied_type program.core (slice_get program.core.variables v) ≡ None
+  empties zero = refl
+  empties (suc v) = refl
+
   program_is_plain : IsPlain program
   program_is_plain = record {
     exceptions = refl;
     bodies = λ r. plain_both program (first_items program.core program.first r (variables_of program.core r).count) (work_of_all (env_of program r) first_here (program.body r)) (plain_first program r (variables_of program.core r).count) (statements r);
     endings = ends;
+    outs = empties;
     units = search rules;
     globals = refl;
   }

@@ -20,7 +20,7 @@ use Rattle.op_meaning.specs.Items.{Item, act, also, choose, select, loop, body_f
 use Rattle.op_meaning.specs.Shapes.{is_managed, no_type, variables_of}
 use Rattle.op_meaning.specs.Start.{first_pending}
 use Rattle.op_meaning.specs.Statements.{first_items, work_of_all}
-use Rattle.op_mir.proofs.Unmanaged.{ending_by_row, no_globals}
+use Rattle.op_mir.proofs.Unmanaged.{none_emptied, ending_by_row, no_globals}
 use Rattle.op_mir.specs.Code.{items_of}
 use Rattle.op_mir.specs.Plain.{ArePlain, ArePlainCases, ArePlainTurns, ArePlainUnits, IfExists, IsPlain, IsPlainItem, IsWay}
 use Rattle.op_mir.specs.PlainTests.{are_plain, are_plain_cases, are_plain_turns, has_no_exceptions, has_part, has_plain_tables, is_plain_item, is_plain_result, is_plain_routine, is_plain_type, is_plain_unit, is_plain_variable}
@@ -133,6 +133,7 @@ module _ (core : Core) (stack : ℕ) (tables : has_plain_tables core ≡ true) w
     exceptions = no_exceptions core.exceptions first_test;
     bodies = λ r. body_by r (cases_lt r (length core.routines));
     endings = λ r. ending_by_row core unmanaged_at unmanaged_result r (slice_get core.routines r) refl;
+    outs = none_emptied core unmanaged_at;
     units = plain_units core.units units;
     globals = ap (map (λ v. empty_global v)) (no_globals core unmanaged_at unmanaged (reverse core.units));
   }

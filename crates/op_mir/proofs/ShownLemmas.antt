@@ -1,6 +1,6 @@
 -- What steps show: nothing where temporaries alone change, and the source machine what its worlds differ in.
 use Rattle.std.proofs.Common.{◌≡◌, ℕ, zero, suc, ◌-◌, List, [], ◌∷◌, ◌++◌, length, refl, ap, ap₂, ◌∙◌, arith, take}
-use Rattle.std.specs.Prelude.{Bool, true, false, not, ◌&&◌, nat_lt, if◌then◌else◌, map}
+use Rattle.std.specs.Prelude.{Bool, true, false, not, ◌&&◌, nat_lt, if◌then◌else◌, map, ℤ}
 use Rattle.std.proofs.Math.Seq.{drop-length}
 use Rattle.std.proofs.lemmas.Bool.{le-ltb}
 use Rattle.op_core.specs.declared.program.Core.{Core}
@@ -25,7 +25,7 @@ stands_on true n = refl
 stands_on false n = refl
 
 -- what changes temporaries alone shows nothing
-pub shown_none : (core : Core) (w : World) (temps : ℕ → Value) → shown_between core false w (record w { temps = temps }) ≡ []
+pub shown_none : (core : Core) (w : World) (temps : ℕ → ℤ) → shown_between core false w (record w { temps = temps }) ≡ []
 shown_none core w temps =
     let same : nat_lt w.next w.next ≡ false = le-ltb w.next w.next (omega arith) in
     let n : length w.input - length w.input ≡ 0 = omega arith in

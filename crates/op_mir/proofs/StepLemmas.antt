@@ -1,6 +1,6 @@
 -- Steps of managed code: one instruction, a jump in front of others, and what a step of the source machine is reached by.
 use Rattle.std.proofs.Common.{◌≡◌, ℕ, suc, ◌+◌, ◌*◌, ◌≤◌, List, [], ◌∷◌, length, Some, inl, inr, refl, sym, ap, ap₂, ◌∙◌, subst, arith, le_trans, mul-le-mul_right}
-use Rattle.std.specs.Prelude.{Bool, true, false, slice_get, nat_lt, if◌then◌else◌}
+use Rattle.std.specs.Prelude.{Bool, true, false, slice_get, nat_lt, if◌then◌else◌, ℤ}
 use Rattle.std.proofs.lemmas.Bool.{le-ltb}
 use Rattle.op_simulation.specs.Path.{Path}
 use Rattle.op_simulation.specs.System.{spent}
@@ -105,7 +105,7 @@ one_silent : (u : ℕ) → 1 + 0 + 0 + u + 0 ≡ 1 * (1 + u)
 one_silent u = omega arith
 
 -- an instruction that changes temporaries alone
-pub quiet : (p : Program) (s s' : State) (ms : List MirCaller) (i : Instr) (rest rest' : List Instr) (temps : ℕ → Value) → Here p s ms → instr_bytes p.core s.routine i ≡ 0 → execute (code_of p) i (image s rest ms) ≡ image s' rest' ms → s'.world ≡ record s.world { temps = temps } → Steps p (image s (i ∷ rest) ms) (image s' rest' ms) 1 [] (silent p s 1)
+pub quiet : (p : Program) (s s' : State) (ms : List MirCaller) (i : Instr) (rest rest' : List Instr) (temps : ℕ → ℤ) → Here p s ms → instr_bytes p.core s.routine i ≡ 0 → execute (code_of p) i (image s rest ms) ≡ image s' rest' ms → s'.world ≡ record s.world { temps = temps } → Steps p (image s (i ∷ rest) ms) (image s' rest' ms) 1 [] (silent p s 1)
 quiet p s s' ms i rest rest' temps h light e world =
     let from = image s (i ∷ rest) ms in
     let to = image s' rest' ms in

@@ -7,14 +7,27 @@ use Rattle.op_core.specs.declared.program.Core.{Core}
 use Rattle.op_core.specs.declared.program.Unit.{Unit as UnitRow}
 use Rattle.op_core.specs.declared.routine.Routine.{Routine}
 use Rattle.op_core.specs.declared.routine.Variable.{Variable}
-use Rattle.op_meaning.specs.Calls.{ended_variables, ending_of}
+use Rattle.op_meaning.specs.Calls.{emptied_type, ended_variables, ending_of}
 use Rattle.op_meaning.specs.Shapes.{is_managed, no_type, type_of_variable, variables_of}
 
 ended_none : (role managed : Bool) (k : ℕ) → managed ≡ false → (if role && managed then k ∷ [] else []) ≡ []
 ended_none true managed k is = ap (λ m. if m then k ∷ [] else []) is
 ended_none false managed k is = refl
 
+taken_out : (role managed : Bool) (of : TypeId) → managed ≡ false → (if role && managed then Some of else None) ≡ None
+taken_out true managed of is = ap (λ m. if m then Some of else None) is
+taken_out false managed of is = refl
+
 module _ (core : Core) (variables : (k : ℕ) (v : Variable) → slice_get core.variables k ≡ Some v → is_managed core v.of ≡ false) where
+  -- ---- what is emptied before a call
+
+  emptied_by : (v : ℕ) (row : Option Variable) → slice_get core.variables v ≡ row → emptied_type core row ≡ None
+  emptied_by v None at = refl
+  emptied_by v (Some row) at = taken_out _ (is_managed core row.of) row.of (variables v row at)
+
+  pub none_emptied : (v : ℕ) → emptied_type core (slice_get core.variables v) ≡ None
+  none_emptied v = emptied_by v (slice_get core.variables v) refl
+
   -- ---- routines
 
   ended_by : (r k : ℕ) (v : Option Variable) → slice_get core.variables ((variables_of core r).first + k) ≡ v → ended_variables core r k ≡ [] → ended_variables core r (suc k) ≡ []

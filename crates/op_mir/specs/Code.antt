@@ -129,10 +129,10 @@ abbrev mutual
       record { now = open_temporaries (t ∷ ts) ∷ a.now; blocks = a.blocks }
   code_item out (halt t) k behind = record { now = stop t ∷ behind; blocks = [] }
   code_item out (attempt items cs) k behind = no_code
-  code_item out (throw t) k behind = no_code
+  code_item out (throw at) k behind = no_code
   code_item out rethrow k behind = no_code
-  code_item out (construct c r given to) k behind = no_code
-  code_item out (free takes_nil t) k behind = no_code
+  code_item out (construct c r given receiver) k behind = no_code
+  code_item out (free takes_nil at) k behind = no_code
 
   -- three blocks and those of its parts: what is behind the loop, its head, and its body
   pub code_loop : Exits → Turns → ℕ → List Instr → List (List Instr)

@@ -18,7 +18,7 @@ use Rattle.op_mir.specs.declared.code.Block.{Block}
 use Rattle.op_mir.specs.declared.code.Routine.{Routine}
 use Rattle.op_mir.specs.declared.instruction.Call.{Call as Operands}
 use Rattle.op_mir.specs.declared.instruction.Given.{Given}
-use Rattle.op_mir.specs.declared.instruction.Given.TheVariants.{ByValue, ByReference, ByPlace, ByCopy}
+use Rattle.op_mir.specs.declared.instruction.Given.TheVariants.{ByValue, ByPlace, ByCopy}
 use Rattle.op_mir.specs.declared.instruction.Instruction.{Instruction}
 use Rattle.op_mir.specs.declared.instruction.Instruction.TheVariants.{Act, Call, Jump, When, Unless, Switch, Dispatch, MakeDue, Stop, Return}
 use Rattle.op_mir.specs.declared.instruction.Receiver.{Receiver}
@@ -77,7 +77,6 @@ abbrev pub roots_of_given : Given → List Root
 roots_of_given (ByPlace path) = path.root ∷ []
 roots_of_given (ByCopy of path) = path.root ∷ []
 roots_of_given (ByValue kind t) = []
-roots_of_given (ByReference t) = []
 
 abbrev pub roots_of_receiver : Receiver → List Root
 roots_of_receiver (Place of to) = to.root ∷ []
@@ -123,7 +122,6 @@ action_words (Do p operands to) = 1 + sum_by operand_words operands
 
 unfoldable pub given_words : Given → ℕ
 given_words (ByValue kind t) = 1
-given_words (ByReference t) = 0
 given_words (ByPlace path) = path_words path
 given_words (ByCopy of path) = path_words path
 

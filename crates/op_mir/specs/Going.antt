@@ -79,7 +79,7 @@ At p bs out (ending variables result ∷ work) rest = ⊥
 pub record CallerGoes (p : Program) (s : Caller) (m : MirCaller) : Type 0 where
   pub plain : IsPlainCaller s
   pub out : Exits
-  pub same : m ≡ record { routine = s.routine; temps = s.temps; made = s.made; work = m.work; receiver = s.receiver; frames = s.frames }
+  pub same : m ≡ record { routine = s.routine; temps = s.temps; waiting = s.waiting; made = s.made; work = m.work; receiver = s.receiver; frames = s.frames }
   pub at : s.frames ≡ [] → At p (blocks_in p s.routine) out s.work m.work
 
 abbrev pub CallersGo : Program → List Caller → List MirCaller → Type 0

@@ -34,7 +34,7 @@ use Rattle.op_mir.specs.declared.action.Operand.TheVariants.{Number, Literal}
 use Rattle.op_mir.specs.declared.ids.LocalId.{LocalId}
 use Rattle.op_mir.specs.declared.instruction.Call.{Call as Operands}
 use Rattle.op_mir.specs.declared.instruction.Given.{Given}
-use Rattle.op_mir.specs.declared.instruction.Given.TheVariants.{ByValue, ByReference, ByPlace, ByCopy}
+use Rattle.op_mir.specs.declared.instruction.Given.TheVariants.{ByValue, ByPlace, ByCopy}
 use Rattle.op_mir.specs.declared.instruction.Receiver.{Receiver}
 use Rattle.op_mir.specs.declared.instruction.Receiver.TheVariants.{Nowhere, Temporary as ToTemporary, Place}
 use Rattle.op_mir.specs.declared.path.Path.{Path}
@@ -181,11 +181,10 @@ has_kinds core variables (Do p operands to) = are_taken (signature p) operands &
 
 -- ---- calls
 
--- a value is given by a number of the kind of the parameter, by another value where it is neither a number nor has parts, or by a copy of
--- what has parts; a place is given where the parameter stands for one
+-- a value is given by a number of the kind of the parameter, or by a copy of what has parts; a place is given where the parameter stands
+-- for one
 unfoldable pub is_given : Core → Run → Given → Parameter → Bool
 is_given core variables (ByValue kind t) p = is_kept_as core p.of kind && not (is_reference (ParameterRole p.mode))
-is_given core variables (ByReference t) p = not (is_number core p.of) && not (is_composite (shape_of core p.of)) && not (is_reference (ParameterRole p.mode))
 is_given core variables (ByPlace path) p = leads_to core variables path p.of && is_reference (ParameterRole p.mode)
 is_given core variables (ByCopy of path) p = is_same of p.of && is_composite (shape_of core of) && leads_to core variables path of && not (is_reference (ParameterRole p.mode))
 

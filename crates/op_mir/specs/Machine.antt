@@ -14,7 +14,7 @@ use Rattle.op_meaning.specs.Costs.{indices, given_bytes}
 use Rattle.op_meaning.specs.Demands.{size_of, Demand, nothing, block_of, is_standing}
 use Rattle.op_meaning.specs.Ending.{framed}
 use Rattle.op_meaning.specs.Expressions.{result_of}
-use Rattle.op_meaning.specs.Frames.{Program, CallerOver, StateOver, Rules, Frame, finalize}
+use Rattle.op_meaning.specs.Frames.{Program, CallerOver, StateOver, Rules, Frame, finalize, a_routine}
 use Rattle.op_meaning.specs.Holding.{each, searching}
 use Rattle.op_meaning.specs.Leaving.{raised_again}
 use Rattle.op_meaning.specs.Losing.{ends_made}
@@ -88,7 +88,7 @@ dispatched c _ t k m = m
 -- in a state that stands behind the instruction
 unfoldable pub execute : Code → Instr → MirState → MirState
 execute c (do_act a landing) m = record m { world = perform c.core a m.world }
-execute c (do_call r given receiver landing) m = called (code_rules c) r given receiver m.work m
+execute c (do_call r given receiver landing) m = called (code_rules c) (a_routine r) given receiver m
 execute c (jump k) m = go_to c k m
 execute c (when t k) m = if is_true (number_at m.world t) then go_to c k m else m
 execute c (unless t k) m = if is_true (number_at m.world t) then m else go_to c k m

@@ -1,12 +1,11 @@
 -- The plain class: programs without managed values, instances and exceptions, and the states that they come to.
-use Rattle.std.specs.Prelude.{◌≡◌, ◌<◌, ℕ, zero, suc, List, [], ◌∷◌, length, Option, Some, None}
+use Rattle.std.specs.Prelude.{◌≡◌, ◌<◌, ℕ, zero, suc, List, [], ◌∷◌, length, Option, Some, None, slice_get}
 use Rattle.op_core.specs.declared.ids.RoutineId.{RoutineId}
 use Rattle.op_core.specs.declared.program.Unit.{Unit as UnitRow}
-use Rattle.op_meaning.specs.Calls.{ending_of}
-use Rattle.op_meaning.specs.Frames.{Program, Caller, Frame, walk, destruction, construction, closing, Pending, finalize, empty_global}
+use Rattle.op_meaning.specs.Calls.{ending_of, emptied_type}
+use Rattle.op_meaning.specs.Frames.{Program, Caller, Frame, walk, destruction, construction, closing, Pending, finalize, empty_global, uncharged, calling}
 use Rattle.op_meaning.specs.Items.{Item, act, also, choose, select, loop, body_first, protect, leave, enter, scoped, attempt, throw, rethrow, halt, construct, free, Items, none, then_do, Turns, turns, Cases, no_cases, cases}
 use Rattle.op_meaning.specs.Start.{first_pending}
-use Rattle.op_meaning.specs.Values.{Value, number, parts, text, line, array, instance, Holder}
 use Rattle.op_meaning.specs.World.{World}
 use Rattle.op_mir.specs.Code.{items_of}
 
@@ -41,10 +40,10 @@ abbrev mutual
   IsPlainItem p (scoped t ts items) = ArePlain p items
   IsPlainItem p (halt t) = Unit {0}
   IsPlainItem p (attempt items cs) = ⊥
-  IsPlainItem p (throw t) = ⊥
+  IsPlainItem p (throw at) = ⊥
   IsPlainItem p rethrow = ⊥
-  IsPlainItem p (construct c r given to) = ⊥
-  IsPlainItem p (free takes_nil t) = ⊥
+  IsPlainItem p (construct c r given receiver) = ⊥
+  IsPlainItem p (free takes_nil at) = ⊥
 
   pub ArePlainTurns : Program → Turns → Type 0
   ArePlainTurns p (turns head t ends between body) = ArePlain p head × ArePlain p between × ArePlain p body
@@ -66,27 +65,17 @@ pub record IsPlain (p : Program) : Type 0 where
   pub exceptions : p.core.exceptions ≡ None
   pub bodies : (r : ℕ) → ArePlain p (items_of p r)
   pub endings : (r : ℕ) → ending_of p.core r ≡ []
+  pub outs : (v : ℕ) → emptied_type p.core (slice_get p.core.variables v) ≡ None
   pub units : ArePlainUnits p p.core.units
   pub globals : first_pending p.core ≡ []
 
 -- ---- states
 
--- a value without the name of an instance in it
-abbrev pub IsNameless : Value → Type 0
-IsNameless (number n) = Unit {0}
-IsNameless (parts count part) = (k : ℕ) → IsNameless (part k)
-IsNameless (text t) = Unit {0}
-IsNameless (line n) = Unit {0}
-IsNameless (array name) = Unit {0}
-IsNameless (instance holds None) = Unit {0}
-IsNameless (instance holds (Some n)) = ⊥
-
--- no exception is under way, no temporary has to be ended, and no instance is named
+-- no exception is under way or waits, and no temporary has to be ended
 pub record IsPlainWorld (w : World) : Type 0 where
   pub raised : w.raised ≡ None
   pub made : w.made ≡ []
-  pub temps : (t : ℕ) → IsNameless (w.temps t)
-  pub memory : (h : Holder) → IsNameless (w.memory h)
+  pub waiting : (t : ℕ) → w.waiting t ≡ None
 
 -- nothing but the closing
 abbrev pub ArePlainFrames : List Frame → Type 0
@@ -94,10 +83,12 @@ ArePlainFrames [] = Unit {0}
 ArePlainFrames (closing status ∷ rest) = ArePlainFrames rest
 ArePlainFrames (walk places lost waits ∷ rest) = ⊥
 ArePlainFrames (destruction i started entered places waits ∷ rest) = ⊥
+ArePlainFrames (uncharged frame ∷ rest) = ⊥
+ArePlainFrames (calling callee receiver given outs ∷ rest) = ⊥
 ArePlainFrames (construction i ∷ rest) = ⊥
 
 pub record IsPlainCaller (c : Caller) : Type 0 where
-  pub temps : (t : ℕ) → IsNameless (c.temps t)
+  pub waiting : (t : ℕ) → c.waiting t ≡ None
   pub made : c.made ≡ []
   pub frames : ArePlainFrames c.frames
 

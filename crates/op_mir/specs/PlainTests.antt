@@ -34,10 +34,10 @@ abbrev mutual
   is_plain_item n (halt t) = true
   is_plain_item n (scoped t ts items) = are_plain n items
   is_plain_item n (attempt items cs) = false
-  is_plain_item n (throw t) = false
+  is_plain_item n (throw at) = false
   is_plain_item n rethrow = false
-  is_plain_item n (construct c r given to) = false
-  is_plain_item n (free takes_nil t) = false
+  is_plain_item n (construct c r given receiver) = false
+  is_plain_item n (free takes_nil at) = false
 
   pub are_plain_turns : ℕ → Turns → Bool
   are_plain_turns n (turns head t ends between body) = are_plain n head && are_plain n between && are_plain n body

@@ -28,7 +28,7 @@ use Rattle.op_mir.specs.declared.ids.TemporaryId.{TemporaryId}
 use Rattle.op_mir.specs.declared.instruction.Arm.{Arm}
 use Rattle.op_mir.specs.declared.instruction.Call.{Call as Operands}
 use Rattle.op_mir.specs.declared.instruction.Given.{Given}
-use Rattle.op_mir.specs.declared.instruction.Given.TheVariants.{ByValue, ByReference, ByPlace, ByCopy}
+use Rattle.op_mir.specs.declared.instruction.Given.TheVariants.{ByValue, ByPlace, ByCopy}
 use Rattle.op_mir.specs.declared.instruction.Instruction.{Instruction}
 use Rattle.op_mir.specs.declared.instruction.Instruction.TheVariants.{Act, Call, Jump, When, Unless, Switch, Dispatch, MakeDue, Stop, Return}
 use Rattle.op_mir.specs.declared.instruction.Receiver.{Receiver}
@@ -145,7 +145,6 @@ copied_fits mir routine of path = has_type mir of && path_fits mir routine path
 
 unfoldable pub given_fits : Mir → Routine → Given → Bool
 given_fits mir routine (ByValue kind t) = has routine t
-given_fits mir routine (ByReference t) = has routine t
 given_fits mir routine (ByPlace path) = path_fits mir routine path
 given_fits mir routine (ByCopy of path) = copied_fits mir routine of path
 

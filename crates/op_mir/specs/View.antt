@@ -5,7 +5,7 @@ use Rattle.op_core.specs.Initial.{FirstValue, parts as first_parts, no_values}
 use Rattle.op_core.specs.declared.program.Core.{Core}
 use Rattle.op_meaning.specs.Actions.{Action as MeantAction, constant, load, store, copy, look, begin_with, pick, arithmetic, compare, negate, complement, invert, absolute, odd, upper, low_bits, check, neighbour, single, span, combine, contains, check_set, primitive}
 use Rattle.op_meaning.specs.Frames.{program_of}
-use Rattle.op_meaning.specs.Items.{Given as MeantGiven, by_value, by_reference, by_place, by_copy, Receiver as MeantReceiver, nowhere, to_temp, to_place, none}
+use Rattle.op_meaning.specs.Items.{Given as MeantGiven, by_value, by_place, by_copy, Receiver as MeantReceiver, nowhere, to_temp, to_place, none}
 use Rattle.op_meaning.specs.Paths.{Path as MeantPath, Root as MeantRoot, in_global, in_local, through, in_temporary, Step as MeantStep, field, element}
 use Rattle.op_meaning.specs.Primitives.{Destination as MeantDestination, Operand as MeantOperand, from_temp, in_temp, literal_text, unused}
 use Rattle.op_meaning.specs.Shapes.{type_of_local, variables_of}
@@ -25,7 +25,7 @@ use Rattle.op_mir.specs.declared.code.Routine.{Routine}
 use Rattle.op_mir.specs.declared.ids.BlockId.{BlockId}
 use Rattle.op_mir.specs.declared.instruction.Arm.{Arm}
 use Rattle.op_mir.specs.declared.instruction.Given.{Given}
-use Rattle.op_mir.specs.declared.instruction.Given.TheVariants.{ByValue, ByReference, ByPlace, ByCopy}
+use Rattle.op_mir.specs.declared.instruction.Given.TheVariants.{ByValue, ByPlace, ByCopy}
 use Rattle.op_mir.specs.declared.instruction.Instruction.{Instruction}
 use Rattle.op_mir.specs.declared.instruction.Instruction.TheVariants.{Act, Call, Jump, When, Unless, Switch, Dispatch, MakeDue, Stop, Return}
 use Rattle.op_mir.specs.declared.instruction.Receiver.{Receiver}
@@ -107,7 +107,6 @@ view_landing (Some block) = Some block.0
 
 abbrev pub view_given : Given → MeantGiven
 view_given (ByValue kind t) = by_value kind t.0
-view_given (ByReference t) = by_reference t.0
 view_given (ByPlace path) = by_place (view_path path)
 view_given (ByCopy of path) = by_copy of (view_path path)
 

@@ -221,7 +221,6 @@ fn given_words(given: &Given) -> u64
             kind: _,
             temporary: _,
         } => 1,
-        Given::ByReference { temporary: _ } => 0,
         Given::ByPlace { path } => path_words(path),
         Given::ByCopy { of: _, path } => path_words(path),
     }
@@ -456,7 +455,6 @@ fn named_in_given(root: Root, given: &Given) -> bool
             kind: _,
             temporary: _,
         } => false,
-        Given::ByReference { temporary: _ } => false,
         Given::ByPlace { path } => one_root(root, path.root),
         Given::ByCopy { of: _, path } => one_root(root, path.root),
     }
@@ -480,7 +478,6 @@ fn given_root(given: &Given) -> Option<Root>
             kind: _,
             temporary: _,
         } => None,
-        Given::ByReference { temporary: _ } => None,
         Given::ByPlace { path } => Some(path.root),
         Given::ByCopy { of: _, path } => Some(path.root),
     }

@@ -12,10 +12,6 @@ pub enum Given {
         kind: IntegerKind,
         temporary: TemporaryId,
     },
-    /// Another value.
-    ByReference {
-        temporary: TemporaryId,
-    },
     /// The place itself.
     ByPlace {
         path: Path,

@@ -303,9 +303,6 @@ fn is_given(core: &Core, variables: Run, given: &Given, parameter: &Parameter) -
     let refers = is_reference(Role::Parameter(parameter.mode));
     match given {
         Given::ByValue { kind, temporary: _ } => is_kept_as(core, parameter.of, *kind) && !refers,
-        Given::ByReference { temporary: _ } => {
-            !is_number(core, parameter.of) && !is_composite(core, parameter.of) && !refers
-        }
         Given::ByPlace { path } => leads_to(core, variables, path, parameter.of) && refers,
         Given::ByCopy { of, path } => {
             of.0 == parameter.of.0

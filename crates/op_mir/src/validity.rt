@@ -223,7 +223,6 @@ fn valid_given(mir: &Mir, routine: &Routine, given: &Given) -> bool
 {
     match given {
         Given::ByValue { kind: _, temporary } => has_one(routine, *temporary),
-        Given::ByReference { temporary } => has_one(routine, *temporary),
         Given::ByPlace { path } => valid_path(mir, routine, path),
         Given::ByCopy { of, path } => valid_copied(mir, routine, *of, path),
     }

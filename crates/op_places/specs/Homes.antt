@@ -20,7 +20,7 @@ use Rattle.op_mir.specs.declared.code.Routine.{Routine}
 use Rattle.op_mir.specs.declared.ids.LocalId.{LocalId}
 use Rattle.op_mir.specs.declared.instruction.Call.{Call as Operands}
 use Rattle.op_mir.specs.declared.instruction.Given.{Given}
-use Rattle.op_mir.specs.declared.instruction.Given.TheVariants.{ByValue, ByReference, ByPlace, ByCopy}
+use Rattle.op_mir.specs.declared.instruction.Given.TheVariants.{ByValue, ByPlace, ByCopy}
 use Rattle.op_mir.specs.declared.instruction.Instruction.{Instruction}
 use Rattle.op_mir.specs.declared.instruction.Instruction.TheVariants.{Act, Call, Jump, When, Unless, Switch, Dispatch, MakeDue, Stop, Return}
 use Rattle.op_mir.specs.declared.instruction.Receiver.{Receiver}
@@ -50,7 +50,6 @@ with_place roots (Temporary of n) = with_temporary roots (Temporary of n)
 
 abbrev pub with_given : List Root → Given → List Root
 with_given roots (ByValue kind t) = roots
-with_given roots (ByReference t) = roots
 with_given roots (ByPlace path) = with_place roots path.root
 with_given roots (ByCopy of path) = with_temporary roots path.root
 

@@ -25,7 +25,7 @@ use Rattle.op_frames.specs.Made.{Every}
 use Rattle.op_meaning.specs.Frames.{empty_global, program_of}
 use Rattle.op_meaning.specs.Shapes.{is_managed, variables_of}
 use Rattle.op_meaning.specs.Start.{first_pending}
-use Rattle.op_mir.proofs.Unmanaged.{ending_by_row, no_globals}
+use Rattle.op_mir.proofs.Unmanaged.{none_emptied, ending_by_row, no_globals}
 use Rattle.op_mir.specs.Plain.{ArePlainUnits, IfExists}
 use Rattle.op_plain.proofs.CountedLemmas.{statements_counted}
 use Rattle.op_plain.proofs.Parts.{Tests, failed, tests_of}
@@ -175,6 +175,7 @@ plain_by_test core e =
       written = λ stack r. written_by core tests stack r (slice_get core.routines r) refl;
       exceptions = none_is core.exceptions tests.exceptions;
       endings = λ r. ending_by_row core (unmanaged_at core tests) (unmanaged_in core tests) r (slice_get core.routines r) refl;
+      outs = none_emptied core (unmanaged_at core tests);
       units = λ stack. units_plain core tests stack core.units tests.units;
       few = few_units (length core.units) tests.few;
       globals = pending_none core tests;
@@ -186,4 +187,4 @@ plain_by_test core e =
 pub plain_by_items : PlainByItems
 plain_by_items core stack e bodies =
     let is = plain_by_test core e in
-    record { exceptions = is.exceptions; bodies = bodies; endings = is.endings; units = is.units stack; globals = is.globals }
+    record { exceptions = is.exceptions; bodies = bodies; endings = is.endings; outs = is.outs; units = is.units stack; globals = is.globals }

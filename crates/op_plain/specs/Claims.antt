@@ -1,5 +1,5 @@
 -- What is proved of programs that pass the test.
-use Rattle.std.specs.Prelude.{◌≡◌, ◌≤◌, ℕ, true, [], None, length}
+use Rattle.std.specs.Prelude.{◌≡◌, ◌≤◌, ℕ, true, [], None, length, slice_get}
 use Rattle.op_constants.specs.Offsets.{size_in}
 use Rattle.op_core.specs.Rows.{rows}
 use Rattle.op_core.specs.declared.program.Core.{Core}
@@ -8,7 +8,7 @@ use Rattle.op_places.specs.Frames.{parameters_of}
 use Rattle.op_frames.specs.Charged.{IsCharged}
 use Rattle.op_frames.specs.Counted.{AreCountedStatements}
 use Rattle.op_frames.specs.Made.{Every}
-use Rattle.op_meaning.specs.Calls.{ending_of}
+use Rattle.op_meaning.specs.Calls.{ending_of, emptied_type}
 use Rattle.op_meaning.specs.Frames.{program_of}
 use Rattle.op_meaning.specs.Shapes.{variables_of}
 use Rattle.op_meaning.specs.Start.{first_pending}
@@ -26,9 +26,10 @@ pub record IsPlainCore (core : Core) : Type 0 where
   pub counted : (stack r : ℕ) → AreCountedStatements ((program_of core stack).body r)
   -- conversions that are not written stand apart, and each branch of a case has a label
   pub written : (stack r : ℕ) → AreWrittenStatements ((program_of core stack).body r)
-  -- errors end the program, nothing has to be ended behind a routine or the program, and the parts of units are there
+  -- errors end the program, nothing has to be ended behind a routine or the program or emptied before a call, and the parts of units are there
   pub exceptions : core.exceptions ≡ None
   pub endings : (r : ℕ) → ending_of core r ≡ []
+  pub outs : (v : ℕ) → emptied_type core (slice_get core.variables v) ≡ None
   pub units : (stack : ℕ) → ArePlainUnits (program_of core stack) core.units
   pub few : length core.units ≤ 1024
   pub globals : first_pending core ≡ []

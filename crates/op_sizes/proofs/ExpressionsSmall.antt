@@ -372,5 +372,8 @@ mutual
       let i = find_small env here e c w in
       let p = path_small (type_of e) here (find env here e).now in
       omega (arith, i, p)
-  one_small env here (array e) c w = let i = find_small env here e c w in omega (arith, i)
+  one_small env here (array e) c w =
+      let i = find_small env here e c w in
+      let p = path_small (type_of e) here (find env here e).now in
+      omega (arith, i, p)
   one_small env here (listed of es) c w = let e = listed_node env.core of (count_of es) in omega (arith, e)

@@ -120,10 +120,10 @@ mutual
       let same = ends_small (t ∷ ts) behind in
       omega (arith, inner, same)
   item_small out (attempt items cs) k behind l = omega arith
-  item_small out (throw t) k behind l = omega arith
+  item_small out (throw at) k behind l = omega arith
   item_small out rethrow k behind l = omega arith
-  item_small out (construct c r given to) k behind l = omega arith
-  item_small out (free takes_nil t) k behind l = omega arith
+  item_small out (construct c r given receiver) k behind l = omega arith
+  item_small out (free takes_nil at) k behind l = omega arith
 
   loop_small : (out : Exits) (t : Turns) (k : ℕ) (behind : List Instr) → LeaveBy out → blocks_size (code_loop out t k behind) ≤ code_size behind + (4 + turns_size t)
   loop_small out (turns head t ends between body) k behind l =

@@ -41,7 +41,7 @@ use Rattle.op_mir.specs.declared.code.Mir.{Mir}
 use Rattle.op_mir.specs.declared.ids.LocalId.{LocalId}
 use Rattle.op_mir.specs.declared.instruction.Call.{Call}
 use Rattle.op_mir.specs.declared.instruction.Given.{Given}
-use Rattle.op_mir.specs.declared.instruction.Given.TheVariants.{ByValue, ByReference, ByPlace, ByCopy}
+use Rattle.op_mir.specs.declared.instruction.Given.TheVariants.{ByValue, ByPlace, ByCopy}
 use Rattle.op_mir.specs.declared.instruction.Instruction.{Instruction}
 use Rattle.op_mir.specs.declared.instruction.Instruction.TheVariants.{Act, Call as CallOf, Jump, When, Unless, Switch, Dispatch, MakeDue, Stop, Return}
 use Rattle.op_mir.specs.declared.instruction.Receiver.{Receiver}
@@ -261,7 +261,6 @@ module _ (core : Core) (frame : Frame) where
 
   given_small : (g : Given) (free : VirtualRegister) → 1 + code_weight (given_code core frame g free) ≤ given_size (view_given g)
   given_small (ByValue kind t) free = let e = value_small kind (register_of frame.bank t) free in omega (arith, e)
-  given_small (ByReference t) free = omega arith
   given_small (ByPlace path) free = let e = place_small 0 path.root path.steps free in omega (arith, e)
   given_small (ByCopy of path) free = let e = place_small 0 path.root path.steps free in omega (arith, e)
 

@@ -85,10 +85,10 @@ abbrev mutual
   item_text w core (halt t) = 0
   item_text w core (scoped t ts items) = items_text w core items
   item_text w core (attempt items cs) = 0
-  item_text w core (throw t) = 0
+  item_text w core (throw at) = 0
   item_text w core rethrow = 0
-  item_text w core (construct c r given to) = 0
-  item_text w core (free takes_nil t) = 0
+  item_text w core (construct c r given receiver) = 0
+  item_text w core (free takes_nil at) = 0
 
   pub turns_text : (List ℕ → ℕ) → Core → Turns → ℕ
   turns_text w core (turns head t ends between body) = items_text w core head + (items_text w core between + items_text w core body)
@@ -211,10 +211,10 @@ module _ (w : List ℕ → ℕ) (core : Core) where
         let same = ends_kept (t ∷ ts) behind in
         omega (arith, inner, same)
     item_kept out (attempt items cs) k behind l = omega arith
-    item_kept out (throw t) k behind l = omega arith
+    item_kept out (throw at) k behind l = omega arith
     item_kept out rethrow k behind l = omega arith
-    item_kept out (construct c r given to) k behind l = omega arith
-    item_kept out (free takes_nil t) k behind l = omega arith
+    item_kept out (construct c r given receiver) k behind l = omega arith
+    item_kept out (free takes_nil at) k behind l = omega arith
 
     loop_kept : (out : Exits) (t : Turns) (k : ℕ) (behind : List Instr) → LeaveBy out → blocks_text w core (code_loop out t k behind) ≤ code_text w core behind + turns_text w core t
     loop_kept out (turns head t ends between body) k behind l =

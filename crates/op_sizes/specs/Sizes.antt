@@ -1,7 +1,7 @@
 -- How much low code managed code and items come to at most.
 use Rattle.std.specs.Prelude.{ℕ, ◌+◌, ◌*◌, List, [], ◌∷◌, length}
 use Rattle.op_meaning.specs.Actions.{Action, constant, load, store, copy, look, begin_with, pick, arithmetic, compare, negate, complement, invert, absolute, odd, upper, low_bits, check, neighbour, single, span, combine, contains, check_set, primitive}
-use Rattle.op_meaning.specs.Items.{Given, by_value, by_reference, by_place, by_copy, Receiver, nowhere, to_temp, to_place, Item, act, also, choose, select, loop, body_first, protect, leave, enter, scoped, attempt, throw, rethrow, halt, construct, free, Items, none, then_do, Turns, turns, Cases, no_cases, cases}
+use Rattle.op_meaning.specs.Items.{Given, by_value, by_place, by_copy, Receiver, nowhere, to_temp, to_place, Item, act, also, choose, select, loop, body_first, protect, leave, enter, scoped, attempt, throw, rethrow, halt, construct, free, Items, none, then_do, Turns, turns, Cases, no_cases, cases}
 use Rattle.op_meaning.specs.Paths.{Path}
 use Rattle.op_meaning.specs.Primitives.{Operand, from_temp, literal_text}
 use Rattle.op_mir.specs.Code.{Arm, Instr, do_act, do_call, jump, when, unless, switch, dispatch, make_due, open_temporaries, end_temporary, stop, ret}
@@ -51,7 +51,6 @@ action_size (primitive p operands to) = 1 + operands_size operands
 -- an argument counts with the call once more
 abbrev pub given_size : Given → ℕ
 given_size (by_value kind t) = 3
-given_size (by_reference t) = 1
 given_size (by_place p) = 1 + path_size p
 given_size (by_copy of p) = 1 + path_size p
 
@@ -116,10 +115,10 @@ abbrev mutual
   item_size (halt t) = 3
   item_size (scoped t ts items) = items_size items
   item_size (attempt items cs) = 0
-  item_size (throw t) = 0
+  item_size (throw at) = 0
   item_size rethrow = 0
-  item_size (construct c r given to) = 0
-  item_size (free takes_nil t) = 0
+  item_size (construct c r given receiver) = 0
+  item_size (free takes_nil at) = 0
 
   pub turns_size : Turns → ℕ
   turns_size (turns head t ends between body) = items_size head + (items_size between + items_size body)

@@ -112,10 +112,10 @@ module _ (core : Core) (r : ℕ) where
         let a = code_typed items outer k (ends (t ∷ ts) behind) (scope_leaves out (t ∷ ts) leaves) (ends_typed (t ∷ ts) behind h) typed in
         (in_front (open_temporaries (t ∷ ts)) (code outer items k (ends (t ∷ ts) behind)).now tt a.0, a.1)
     item_typed (attempt items cs) out k behind leaves h typed = (nothing, no_blocks)
-    item_typed (throw t) out k behind leaves h typed = (nothing, no_blocks)
+    item_typed (throw at) out k behind leaves h typed = (nothing, no_blocks)
     item_typed rethrow out k behind leaves h typed = (nothing, no_blocks)
     item_typed (construct c q given to) out k behind leaves h typed = (nothing, no_blocks)
-    item_typed (free takes_nil t) out k behind leaves h typed = (nothing, no_blocks)
+    item_typed (free takes_nil at) out k behind leaves h typed = (nothing, no_blocks)
 
     loop_typed : (l : Turns) (out : Exits) (k : ℕ) (behind : List Instr) → ExitsTyped out → AreTypedInstrs core r behind → AreTypedTurns core r l → AreTypedBlocks core r (code_loop out l k behind)
     loop_typed (turns head t ends between body) out k behind leaves h typed =

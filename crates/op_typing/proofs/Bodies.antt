@@ -86,7 +86,9 @@ module _ (core : Core) (sound : IsSound core) (simple : IsSimpleProgram core) (r
         ((statements_typed ss around (past 2 here) same h.0 p.0, statements_typed ts (in_finally around) (past 2 here) same h.1 p.1), tt)
     statement_typed (try_on ss hs) around here same h p = (tt, tt)
     statement_typed (try_on_else ss hs ts) around here same h p = (tt, tt)
-    statement_typed (raise e) around here same h p = both core r (make (env_at core r) here e).items (only (throw here.temp)) (made e here h.0 p) (tt, tt)
+    statement_typed (raise e) around here same h p =
+        let f = find (env_at core r) here e in
+        both core r f.items (only (throw (path_of (type_of e) here f.now))) (find_typed core sound simple r x is_there e here h.0 p).0 (tt, tt)
     statement_typed reraise around here same h p = (tt, tt)
     statement_typed (call e) around here same h p = (find_typed core sound simple r x is_there e here h p).0
     statement_typed (assign target e) around here same h p =

@@ -63,8 +63,17 @@ by_place_mode Const_ h = absurd (not_true h)
 abbrev IsCalled : Core → Sees → Arguments → TypeId → Routine → Type 0
 IsCalled core sees given of y = (y.owner ≡ OfUnit) × GivesType core y.result of × AreArguments core sees (rows core.parameters y.parameters) given
 
-abbrev AreSolid : Core → List Parameter → Type 0
+abbrev pub AreSolid : Core → List Parameter → Type 0
 AreSolid core ps = All (λ p. IsSolidType core p.of) ps
+
+pub parameters_solid : (core : Core) → IsSimpleProgram core → (y : Routine) → AreSolid core (rows core.parameters y.parameters)
+parameters_solid core simple y = All-take (λ p. IsSolidType core p.of) _ _ (All-drop (λ p. IsSolidType core p.of) _ _ simple.parameters)
+
+pub first_solid : (core : Core) (p : Parameter) (ps : List Parameter) → AreSolid core (p ∷ ps) → IsSolidType core p.of
+first_solid core p ps h = each_row (λ p. IsSolidType core p.of) (p ∷ ps) 0 p h refl
+
+pub others_solid : (core : Core) (p : Parameter) (ps : List Parameter) → AreSolid core (p ∷ ps) → AreSolid core ps
+others_solid core p ps h = All-drop (λ p. IsSolidType core p.of) 1 (p ∷ ps) h
 
 module _ (core : Core) (sound : IsSound core) (simple : IsSimpleProgram core) (r : ℕ) (x : Routine) (is_there : slice_get core.routines r ≡ Some x) where
   -- ---- variables and constants
@@ -101,15 +110,6 @@ module _ (core : Core) (sound : IsSound core) (simple : IsSimpleProgram core) (r
   state_path true of here now solid h = path_typed core sound simple r of here now solid (subst (NowIs core r of) (sym h.1) h.2)
   state_path false of here now solid h = path_typed core sound simple r of here now solid h.1
 
-  parameters_solid : (y : Routine) → AreSolid core (rows core.parameters y.parameters)
-  parameters_solid y = All-take (λ p. IsSolidType core p.of) _ _ (All-drop (λ p. IsSolidType core p.of) _ _ simple.parameters)
-
-  first_solid : (p : Parameter) (ps : List Parameter) → AreSolid core (p ∷ ps) → IsSolidType core p.of
-  first_solid p ps h = each_row (λ p. IsSolidType core p.of) (p ∷ ps) 0 p h refl
-
-  others_solid : (p : Parameter) (ps : List Parameter) → AreSolid core (p ∷ ps) → AreSolid core ps
-  others_solid p ps h = All-drop (λ p. IsSolidType core p.of) 1 (p ∷ ps) h
-
   -- ---- all parts of expressions
 
   mutual
@@ -127,7 +127,7 @@ module _ (core : Core) (sound : IsSound core) (simple : IsSimpleProgram core) (r
     root_found (object id) here of h s = (tt, (s, variable_typed id of h.0 (some_then (slice_get core.variables id.0) (λ v. (v.of ≡ of) × (v.role ≡ ObjectRole)) (λ v. v.of ≡ of) h.1 (λ v is. is.0)) s))
     root_found (call id given) here of h s =
         let (y, at, facts) = some_and (slice_get core.routines id.0) (IsCalled core (within core r) given of) h.1 in
-        let passing = pass_typed (rows core.parameters y.parameters) given (past_whole here) facts.2 s.1 (parameters_solid y) in
+        let passing = pass_typed (rows core.parameters y.parameters) given (past_whole here) facts.2 s.1 (parameters_solid core simple y) in
         let enters : IsTypedCall core r id.0 (pass (env_at core r) (past_whole here) given).given (receiver_of core (result_of (slice_get core.routines id.0)) here) = record {
           callee = y;
           there = at;
@@ -182,8 +182,8 @@ module _ (core : Core) (sound : IsSound core) (simple : IsSimpleProgram core) (r
     pass_typed : (ps : List Parameter) (given : Arguments) (here : Here) → AreArguments core (within core r) ps given → EveryNode (simple_asks core) (arguments_nodes given) → AreSolid core ps → AreTyped core r (pass (env_at core r) here given).items × AreTypedGiven core r (pass (env_at core r) here given).given ps
     pass_typed [] no_arguments here h s solid = (tt, tt)
     pass_typed (p ∷ ps) (arguments a others) here h s solid =
-        let first = argument_typed a here p h.0 s.0 (first_solid p ps solid) in
-        let rest = pass_typed ps others (past (pass_one (env_at core r) here a).used (past_whole here)) h.1 s.1 (others_solid p ps solid) in
+        let first = argument_typed a here p h.0 s.0 (first_solid core p ps solid) in
+        let rest = pass_typed ps others (past (pass_one (env_at core r) here a).used (past_whole here)) h.1 s.1 (others_solid core p ps solid) in
         (both core r (pass_one (env_at core r) here a).items (pass (env_at core r) (past (pass_one (env_at core r) here a).used (past_whole here)) others).items first.0 rest.0, (first.1, rest.1))
     pass_typed [] (arguments a others) here h s solid = absurd h
     pass_typed (p ∷ ps) no_arguments here h s solid = absurd h

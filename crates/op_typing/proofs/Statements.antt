@@ -132,6 +132,6 @@ module _ (core : Core) (sound : IsSound core) (simple : IsSimpleProgram core) (r
       counted_typed here d target amount checked f h.0.0.1 (find_typed core sound simple r x is_there target.place here h.0.0.0 s.0) (make_typed core sound simple r x is_there amount (past (f.used + 1) (past_whole here)) h.1.0 s.1).0
   built_in_typed (include set e) here h s = element_made set e here Add h s.0 s.1
   built_in_typed (exclude set e) here h s = element_made set e here Subtract h s.0 s.1
-  built_in_typed (free_of e empties) here h s = both core r (make (env_at core r) here e).items (only (free true here.temp)) (make_typed core sound simple r x is_there e here h.0 s).0 (tt, tt)
-  built_in_typed (destroy e) here h s = both core r (make (env_at core r) here e).items (only (free false here.temp)) (make_typed core sound simple r x is_there e here h.0 s).0 (tt, tt)
+  built_in_typed (free_of e empties) here h s = let f = find (env_at core r) here e in both core r f.items (only (free true (path_of (type_of e) here f.now))) (find_typed core sound simple r x is_there e here h.0 s).0 (tt, tt)
+  built_in_typed (destroy e) here h s = let f = find (env_at core r) here e in both core r f.items (only (free false (path_of (type_of e) here f.now))) (find_typed core sound simple r x is_there e here h.0 s).0 (tt, tt)
   built_in_typed _ here h s = tt

@@ -20,7 +20,7 @@ use Rattle.op_core.specs.declared.routine.Variable.{Variable}
 use Rattle.op_core.specs.declared.statement.Label.{Label}
 use Rattle.op_core.specs.declared.types.IntegerKind.{IntegerKind}
 use Rattle.op_meaning.specs.Actions.{Action, constant, load, store, copy, look, begin_with, pick, arithmetic, compare, negate, complement, invert, absolute, odd, upper, low_bits, check, neighbour, single, span, combine, contains, check_set, primitive}
-use Rattle.op_meaning.specs.Items.{Given, by_value, by_reference, by_place, by_copy, Receiver, nowhere, to_temp, to_place, Item, act, also, choose, select, loop, body_first, protect, leave, enter, scoped, attempt, throw, rethrow, halt, construct, free, Items, none, then_do, Turns, turns, Cases, no_cases, cases}
+use Rattle.op_meaning.specs.Items.{Given, by_value, by_place, by_copy, Receiver, nowhere, to_temp, to_place, Item, act, also, choose, select, loop, body_first, protect, leave, enter, scoped, attempt, throw, rethrow, halt, construct, free, Items, none, then_do, Turns, turns, Cases, no_cases, cases}
 use Rattle.op_meaning.specs.Numbers.{fits_word}
 use Rattle.op_meaning.specs.Paths.{Root, in_global, in_local, through, in_temporary, Path, path_to}
 use Rattle.op_meaning.specs.Primitives.{IsApplied, Operand, from_temp, literal_text}
@@ -119,7 +119,6 @@ IsTypedAction core r (primitive p operands to) = IsApplied IsTypedOperand p oper
 -- a parameter is given the low bits of a number, a copy of what stands at a place, or that place itself
 abbrev pub IsTypedGiven : Core → ℕ → Given → Parameter → Type 0
 IsTypedGiven core r (by_value kind t) p = IsSingle core p.of kind × (is_reference (ParameterRole p.mode) ≡ false)
-IsTypedGiven core r (by_reference t) p = ⊥
 IsTypedGiven core r (by_place path) p = PathTo core r path p.of × (is_reference (ParameterRole p.mode) ≡ true)
 IsTypedGiven core r (by_copy of path) p = (of ≡ p.of) × PathTo core r path of × IsComposite core of × (is_reference (ParameterRole p.mode) ≡ false)
 
@@ -166,11 +165,11 @@ abbrev mutual
   IsTypedItem core r (enter q given receiver) = IsTypedCall core r q given receiver
   IsTypedItem core r (scoped t ts items) = AreTyped core r items
   IsTypedItem core r (attempt items cs) = Unit {0}
-  IsTypedItem core r (throw t) = Unit {0}
+  IsTypedItem core r (throw at) = Unit {0}
   IsTypedItem core r rethrow = Unit {0}
   IsTypedItem core r (halt t) = Unit {0}
   IsTypedItem core r (construct c q given to) = Unit {0}
-  IsTypedItem core r (free takes_nil t) = Unit {0}
+  IsTypedItem core r (free takes_nil at) = Unit {0}
 
   pub AreTypedTurns : Core → ℕ → Turns → Type 0
   AreTypedTurns core r (turns head t ends between body) = AreTyped core r head × AreTyped core r between × AreTyped core r body

@@ -20,9 +20,6 @@ fn given(out: &mut Writer, core: &Core, of: &Given) -> Result<(), NoMemory> {
             kind,
             temporary: from,
         } => out.words(&[Word::Plain("value"), integer(*kind), temporary(*from)]),
-        Given::ByReference { temporary: from } => {
-            out.words(&[Word::Plain("reference"), temporary(*from)])
-        }
         Given::ByPlace { path: at } => {
             out.words(&[Word::Plain("place")])?;
             path(out, core, at)

@@ -3,12 +3,12 @@ use crate::action::action;
 use crate::call::{all_given, receiver};
 use crate::code::labels;
 use crate::names::{class, routine, temporary, truth};
-use crate::place::root;
+use crate::place::{path, root};
 use crate::writer::{Word, Writer};
 use op_base::NoMemory;
 use op_core::{ClassId, Core, RoutineId};
 use op_items::{Case, Clause, Item, Turns, Way, routine_items};
-use op_mir::{Action, Given, Receiver, TemporaryId};
+use op_mir::{Action, Given, Path, Receiver, TemporaryId};
 use std::alloc::Global;
 
 /// The items of each routine of a program that has a body, in the order of their rows.
@@ -103,19 +103,19 @@ fn item(out: &mut Writer, core: &Core, of: &Item) -> Result<(), NoMemory> {
             all_clauses(out, core, clauses)?;
             part(out, core, "on all others", others)
         }
-        Item::Throw { instance } => out.line(&[Word::Plain("throw"), temporary(*instance)]),
+        Item::Throw { at } => placed(out, core, "throw", at),
         Item::Rethrow => out.line(&[Word::Plain("throw again")]),
         Item::Halt { status } => out.line(&[Word::Plain("halt"), temporary(*status)]),
         Item::Construct {
             class: of,
             routine: id,
             given,
-            to,
-        } => construct(out, core, (*of, *id), given.as_slice(), *to),
-        Item::Free {
-            takes_nil,
-            instance,
-        } => out.line(&free_words(*takes_nil, *instance)),
+            receiver: to,
+        } => construct(out, core, (*of, *id), given.as_slice(), to),
+        Item::Free { takes_nil, at } => {
+            let name = if *takes_nil { "free" } else { "destroy" };
+            placed(out, core, name, at)
+        }
     }
 }
 
@@ -146,9 +146,12 @@ fn protect_words(by: TemporaryId) -> [Word<'static>; 2] {
     [Word::Plain("protect"), temporary(by)]
 }
 
-fn free_words(takes_nil: bool, instance: TemporaryId) -> [Word<'static>; 2] {
-    let name = if takes_nil { "free" } else { "destroy" };
-    [Word::Plain(name), temporary(instance)]
+/// What is done with the instance at a place.
+fn placed(out: &mut Writer, core: &Core, name: &str, at: &Path) -> Result<(), NoMemory> {
+    out.begin()?;
+    out.words(&[Word::Plain(name)])?;
+    path(out, core, at)?;
+    out.end()
 }
 
 fn enter(
@@ -170,13 +173,13 @@ fn construct(
     core: &Core,
     of: (ClassId, RoutineId),
     given: &[Given],
-    to: TemporaryId,
+    to: &Receiver,
 ) -> Result<(), NoMemory> {
     out.begin()?;
     out.words(&[Word::Plain("construct"), class(of.0)])?;
     out.words(&[routine(core, of.1)])?;
     all_given(out, core, given)?;
-    out.words(&[Word::Plain("to"), temporary(to)])?;
+    receiver(out, core, to)?;
     out.end()
 }
 

@@ -21,10 +21,11 @@ use Rattle.op_meaning.specs.Paths.{field as part_field}
 use Rattle.op_meaning.specs.Shapes.{field_number, shape_of}
 use Rattle.op_mir.specs.declared.path.Root.{Root}
 use Rattle.op_tree.specs.declared.operator.Operator.TheVariants.{Add}
-use Rattle.op_typing.proofs.Expressions.{is_text_at_end, text_end, value_typed}
+use Rattle.op_typing.proofs.Expressions.{is_text_at_end, text_end, value_typed, AreSolid, first_solid, others_solid, parameters_solid}
 use Rattle.op_typing.proofs.Founds.{env_at, instance_not_solid}
 use Rattle.op_typing.proofs.Rows.{of_some, some_and}
-use Rattle.op_typing.specs.Simple.{IsSimple, IsSimpleStep, simple_asks}
+use Rattle.op_typing.proofs.Types.{one_back_solid}
+use Rattle.op_typing.specs.Simple.{IsSimple, IsSimpleStep, simple_asks, IsSimpleProgram, IsSolidType}
 use Rattle.op_wholes.proofs.FoundsNamed.{AreNamed, HasOwn, own_of, both, three, IsFound, place_in, variable_in, owned, text_kept, converted_in, prefix_in, acts_found, apply_found, step_found, index_found, pick_found, two_found, second_in, constant_found, receiver_in, given_in}
 use Rattle.op_wholes.proofs.ListsCovered.{AreListed, front_listed, back_listed}
 use Rattle.op_wholes.proofs.PlacesFound.{place_at}
@@ -35,7 +36,7 @@ use Rattle.op_wholes.specs.Listed.{action_wholes, argument_wholes, arguments_who
 abbrev IsCalled : Core → Sees → Arguments → TypeId → Routine → Type 0
 IsCalled core sees given of y = (y.owner ≡ OfUnit) × GivesType core y.result of × AreArguments core sees (rows core.parameters y.parameters) given
 
-module _ (core : Core) (r : ℕ) (wholes : List Root) (blocks : ℕ) (sees : Sees) where
+module _ (core : Core) (r : ℕ) (wholes : List Root) (blocks : ℕ) (sees : Sees) (simple : IsSimpleProgram core) where
   mutual
     -- the value, or the place where it is
     pub find_in : (e : Expression) (here : Here) → IsTyped core sees e → IsSimple core e → IsCounted e → AreListed wholes (wholes_of core here.whole e) → IsFound core r wholes blocks (is_text_at_end e) (type_of e) here (find (env_at core r) here e)
@@ -61,8 +62,8 @@ module _ (core : Core) (r : ℕ) (wholes : List Root) (blocks : ℕ) (sees : See
         let inner = past_whole here in
         let passing = pass (env_at core r) inner given in
         let own_is = own_of core wholes here.whole of (front_listed wholes (whole_of core here.whole of) (arguments_wholes core (here.whole + 1) given) w) in
-        let p = pass_in (rows core.parameters y.parameters) given inner facts.2 s.1 c (back_listed wholes (whole_of core here.whole of) (arguments_wholes core (here.whole + 1) given) w) in
-        let to = subst (λ o. ReceiverIn wholes (receiver_of core o here)) (sym (ap result_of at)) (receiver_in core r wholes blocks y.result of here facts.1 own_is) in
+        let p = pass_in (rows core.parameters y.parameters) given inner (parameters_solid core simple y) facts.2 s.1 c (back_listed wholes (whole_of core here.whole of) (arguments_wholes core (here.whole + 1) given) w) in
+        let to = subst (λ o. ReceiverIn wholes (receiver_of core o here)) (sym (ap result_of at)) (receiver_in core r wholes blocks y.result of here facts.1 s.0 own_is) in
         record {
           items = both wholes blocks passing.items (only (enter id.0 passing.given (receiver_of core (result_of (slice_get core.routines id.0)) here))) p.0 ((p.1, to), tt);
           own_is = own_is;
@@ -125,23 +126,25 @@ module _ (core : Core) (r : ℕ) (wholes : List Root) (blocks : ℕ) (sees : See
         (make_in e (past 1 here) (value_typed core sees base e h.0).0 s.0 c.0 (front_listed wholes (wholes_of core here.whole e) (wholes_of core here.whole e') w)).0
         (make_in e' (past 2 here) (value_typed core sees base e' h.1).0 s.1 c.1 (back_listed wholes (wholes_of core here.whole e) (wholes_of core here.whole e') w)).0 (tt, tt)
 
-    pass_in : (ps : List Parameter) (as' : Arguments) (here : Here) → AreArguments core sees ps as' → EveryNode (simple_asks core) (arguments_nodes as') → EveryNode counted_asks (arguments_nodes as') → AreListed wholes (arguments_wholes core here.whole as') → AreNamed wholes blocks (pass (env_at core r) here as').items × Every (GivenIn wholes) (pass (env_at core r) here as').given
-    pass_in [] no_arguments here h s c w = (tt, tt)
-    pass_in (p ∷ ps) (arguments a others) here h s c w =
+    pass_in : (ps : List Parameter) (as' : Arguments) (here : Here) → AreSolid core ps → AreArguments core sees ps as' → EveryNode (simple_asks core) (arguments_nodes as') → EveryNode counted_asks (arguments_nodes as') → AreListed wholes (arguments_wholes core here.whole as') → AreNamed wholes blocks (pass (env_at core r) here as').items × Every (GivenIn wholes) (pass (env_at core r) here as').given
+    pass_in [] no_arguments here solid h s c w = (tt, tt)
+    pass_in (p ∷ ps) (arguments a others) here solid h s c w =
         let first = pass_one (env_at core r) here a in
-        let one_is = argument_in a here p h.0 s.0 c.0 (front_listed wholes (argument_wholes core here.whole a) (arguments_wholes core (here.whole + 1) others) w) in
-        let rest = pass_in ps others (past first.used (past_whole here)) h.1 s.1 c.1 (back_listed wholes (argument_wholes core here.whole a) (arguments_wholes core (here.whole + 1) others) w) in
+        let one_is = argument_in a here p (first_solid core p ps solid) h.0 s.0 c.0 (front_listed wholes (argument_wholes core here.whole a) (arguments_wholes core (here.whole + 1) others) w) in
+        let rest = pass_in ps others (past first.used (past_whole here)) (others_solid core p ps solid) h.1 s.1 c.1 (back_listed wholes (argument_wholes core here.whole a) (arguments_wholes core (here.whole + 1) others) w) in
         (both wholes blocks first.items (pass (env_at core r) (past first.used (past_whole here)) others).items one_is.0 rest.0, (one_is.1, rest.1))
-    pass_in [] (arguments a others) here h s c w = absurd h
-    pass_in (p ∷ ps) no_arguments here h s c w = absurd h
+    pass_in [] (arguments a others) here solid h s c w = absurd h
+    pass_in (p ∷ ps) no_arguments here solid h s c w = absurd h
 
-    argument_in : (a : Argument) (here : Here) (p : Parameter) → IsArgument core sees p a → EveryNode (simple_asks core) (argument_nodes a) → EveryNode counted_asks (argument_nodes a) → AreListed wholes (argument_wholes core here.whole a) → AreNamed wholes blocks (pass_one (env_at core r) here a).items × GivenIn wholes (pass_one (env_at core r) here a).given
-    argument_in (value e) here p h s c w =
-        let made = make_in e here (value_typed core sees p.of e h.0).0 s c w in
-        (made.0, given_in core r wholes blocks (shape_of core (type_of e)) (type_of e) here refl made.1)
-    argument_in (place e) here p h s c w =
+    argument_in : (a : Argument) (here : Here) (p : Parameter) → IsSolidType core p.of → IsArgument core sees p a → EveryNode (simple_asks core) (argument_nodes a) → EveryNode counted_asks (argument_nodes a) → AreListed wholes (argument_wholes core here.whole a) → AreNamed wholes blocks (pass_one (env_at core r) here a).items × GivenIn wholes (pass_one (env_at core r) here a).given
+    argument_in (value e) here p solid h s c w =
+        let typed = value_typed core sees p.of e h.0 in
+        let made = make_in e here typed.0 s c w in
+        let same = one_back_solid core (type_of e) p.of typed.1 solid in
+        (made.0, given_in core r wholes blocks (type_of e) here (subst (IsSolidType core) (sym same) solid) made.1)
+    argument_in (place e) here p solid h s c w =
         let typed = (value_typed core sees p.of e h.0).0 in
         let f = find_in e here typed s c w in
         (f.items, place_in core r wholes blocks (type_of e) here (find (env_at core r) here e).now (place_at core r sees false e here typed s h.2) f.now)
-    argument_in (array e) here p h s c w = absurd s
-    argument_in (listed of es) here p h s c w = absurd s
+    argument_in (array e) here p solid h s c w = absurd s
+    argument_in (listed of es) here p solid h s c w = absurd s

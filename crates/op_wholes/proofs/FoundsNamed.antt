@@ -1,5 +1,5 @@
 -- What is found of an expression names no other temporaries of record and array types than a list has, if the list has the one of its own value.
-use Rattle.std.proofs.Common.{◌≡◌, ℕ, ◌+◌, ◌-◌, ℤ, pos, negsuc, Bool, true, false, List, [], ◌∷◌, Option, Some, None, slice_get, refl, sym, subst, if◌then◌else◌}
+use Rattle.std.proofs.Common.{◌≡◌, ℕ, ◌+◌, ◌-◌, ℤ, pos, negsuc, Bool, true, false, List, [], ◌∷◌, Option, Some, None, slice_get, refl, sym, subst, if◌then◌else◌, inl, inr}
 use Rattle.op_constants.specs.Shapes.{is_composite}
 use Rattle.op_core.specs.Expression.{Expression, constant as fixed}
 use Rattle.op_core.specs.Sizes.{type_at}
@@ -34,7 +34,9 @@ use Rattle.op_tree.specs.declared.operator.PrefixOperator.{PrefixOperator}
 use Rattle.op_tree.specs.declared.operator.PrefixOperator.TheVariants.{Minus, Not, Plus}
 use Rattle.op_typing.proofs.Founds.{env_at}
 use Rattle.op_typing.proofs.Rows.{not_true}
+use Rattle.op_typing.proofs.Types.{one_back_solid, solid_is}
 use Rattle.op_typing.specs.Simple.{IsSolidType, simple_asks}
+use Rattle.op_typing.specs.Typed.{IsSolid}
 use Rattle.op_wholes.proofs.ListsCovered.{IsListed, AreListed}
 use Rattle.op_wholes.proofs.PlacesFound.{IsAt}
 use Rattle.op_wholes.proofs.TypesWhole.{IsWhole, whole_shape, constant_apart, one_whole}
@@ -246,23 +248,20 @@ module _ (core : Core) (r : ℕ) (wholes : List Root) (blocks : ℕ) where
   -- ---- calls
 
   -- the result of a call has the type of its node
-  pub receiver_in : (result : Option TypeId) (of : TypeId) (here : Here) → GivesType core result of → HasOwn core wholes here.whole of → ReceiverIn wholes (receiver_of core result here)
-  receiver_in None of here h own_is = tt
-  receiver_in (Some to) of here h own_is = by (shape_of core to) refl
+  pub receiver_in : (result : Option TypeId) (of : TypeId) (here : Here) → GivesType core result of → IsSolidType core of → HasOwn core wholes here.whole of → ReceiverIn wholes (receiver_of core result here)
+  receiver_in None of here h solid own_is = tt
+  receiver_in (Some to) of here h solid own_is =
+      let same = one_back_solid core to of h solid in
+      by (solid_is core to (subst (IsSolidType core) (sym same) solid)) (subst (HasOwn core wholes here.whole) (sym same) own_is)
     where
-      by : (s : Shape) → shape_of core to ≡ s → ReceiverIn wholes (receiver_by s to here)
-      by composite e =
-          let whole = whole_shape (shape_of core to) e in
-          subst (HasOwn core wholes here.whole) (sym (one_whole core to of h whole)) own_is whole
-      by (single kind) e = tt
-      by of_chars e = tt
-      by of_elements e = tt
-      by (of_instance holds) e = tt
+      by : IsSolid core to → HasOwn core wholes here.whole to → ReceiverIn wholes (receiver_by (shape_of core to) to here)
+      by (inl (kind, e)) whole = subst (λ s. ReceiverIn wholes (receiver_by s to here)) (sym e) tt
+      by (inr e) whole = subst (λ s. ReceiverIn wholes (receiver_by s to here)) (sym e) (whole (whole_shape (shape_of core to) e))
 
   -- an argument that is a value has the type of its node
-  pub given_in : (s : Shape) (of : TypeId) (here : Here) → shape_of core of ≡ s → HasOwn core wholes here.whole of → GivenIn wholes (given_by s of here)
-  given_in (single kind) of here e own_is = tt
-  given_in composite of here e own_is = own_is (whole_shape (shape_of core of) e)
-  given_in of_chars of here e own_is = tt
-  given_in of_elements of here e own_is = tt
-  given_in (of_instance holds) of here e own_is = tt
+  pub given_in : (of : TypeId) (here : Here) → IsSolidType core of → HasOwn core wholes here.whole of → GivenIn wholes (given_by (shape_of core of) of here)
+  given_in of here solid own_is = by (solid_is core of solid)
+    where
+      by : IsSolid core of → GivenIn wholes (given_by (shape_of core of) of here)
+      by (inl (kind, e)) = subst (λ s. GivenIn wholes (given_by s of here)) (sym e) tt
+      by (inr e) = subst (λ s. GivenIn wholes (given_by s of here)) (sym e) (own_is (whole_shape (shape_of core of) e))

@@ -74,7 +74,7 @@ module _ (core : Core) (stack r : ℕ) (row : Row) (b : Body) (sound : IsSound c
       let typed = if_some row.body (λ b. AreStatements core (everything core) (at_start row) (stmts_of b.statements.items)) b (each_row (IsBody core (everything core)) core.routines r row sound.bodies there) body in
       let plain = each_row (IsSimpleRoutine core) core.routines r row simple.routines there in
       let is_simple = if_some row.body (λ b. AreSimpleStatements core (stmts_of b.statements.items)) b plain.body body in
-      let work = statements_in core r wholes blocks (everything core) (p.body r) (at_start row) first_here
+      let work = statements_in core r wholes blocks (everything core) simple (p.body r) (at_start row) first_here
       (subst (AreStatements core (everything core) (at_start row)) (sym text_is) typed) (subst (AreSimpleStatements core) (sym text_is) is_simple) counted (all_listed wholes) in
       made_both (AreWholesIn wholes) blocks (first_items core p.first r (variables_of core r).count) (work_of_all (env_of p r) first_here (p.body r)) (first_named core wholes blocks r (variables_of core r).count p.first) work
 

@@ -30,7 +30,7 @@ use Rattle.op_tree.specs.declared.statement.Direction.{Direction}
 use Rattle.op_typing.proofs.Expressions.{value_typed}
 use Rattle.op_typing.proofs.Founds.{env_at}
 use Rattle.op_typing.proofs.Rows.{each_row, some_and}
-use Rattle.op_typing.specs.Simple.{AreSimpleStatements, IsSimple, IsSimpleStatement, simple_asks}
+use Rattle.op_typing.specs.Simple.{AreSimpleStatements, IsSimple, IsSimpleStatement, simple_asks, IsSimpleProgram}
 use Rattle.op_wholes.proofs.ExpressionsNamed.{find_in, make_in}
 use Rattle.op_wholes.proofs.FoundsNamed.{AreNamed, own_of, both, three, place_in, converted_in}
 use Rattle.op_wholes.proofs.ListsCovered.{IsListed, AreListed, front_listed, back_listed}
@@ -39,9 +39,9 @@ use Rattle.op_wholes.proofs.PlacesFound.{place_at}
 use Rattle.op_wholes.proofs.TypesWhole.{IsWhole, one_back_whole}
 use Rattle.op_wholes.specs.Listed.{branches_wholes, built_in_wholes, counter_wholes, item_wholes, items_wholes, statement_wholes, wholes_of, wholes_of_statements}
 
-module _ (core : Core) (r : ℕ) (wholes : List Root) (blocks : ℕ) (sees : Sees) where
+module _ (core : Core) (r : ℕ) (wholes : List Root) (blocks : ℕ) (sees : Sees) (simple : IsSimpleProgram core) where
   made : (e : Expression) (here : Here) → IsTyped core sees e → IsSimple core e → IsCounted e → AreListed wholes (wholes_of core here.whole e) → AreNamed wholes blocks (make (env_at core r) here e).items
-  made e here h s c w = (make_in core r wholes blocks sees e here h s c w).0
+  made e here h s c w = (make_in core r wholes blocks sees simple e here h s c w).0
 
   -- ---- built-in procedures
 
@@ -93,7 +93,7 @@ module _ (core : Core) (r : ℕ) (wholes : List Root) (blocks : ℕ) (sees : See
   element_in : (here : Here) (o : Operator) (s e : Expression) → IsElementOf core sees s e → IsSimple core s → IsSimple core e → IsCounted s → IsCounted e → AreListed wholes (wholes_of core here.whole s ++ wholes_of core (here.whole + 1) e) → AreNamed wholes blocks (changed_set (env_at core r) here o (type_of s) e (find (env_at core r) here s))
   element_in here o s e h p q c d w =
       let f = find (env_at core r) here s in
-      let found_is = find_in core r wholes blocks sees s here h.0.0.0 p c (front_listed wholes (wholes_of core here.whole s) (wholes_of core (here.whole + 1) e) w) in
+      let found_is = find_in core r wholes blocks sees simple s here h.0.0.0 p c (front_listed wholes (wholes_of core here.whole s) (wholes_of core (here.whole + 1) e) w) in
       let path = place_in core r wholes blocks (type_of s) here f.now (place_at core r sees false s here h.0.0.0 p h.0.1) found_is.now in
       changed_in here o s e f found_is.items path (made e (past (f.used + 1) (past_whole here)) h.1 q d (back_listed wholes (wholes_of core here.whole s) (wholes_of core (here.whole + 1) e) w))
 
@@ -101,7 +101,7 @@ module _ (core : Core) (r : ℕ) (wholes : List Root) (blocks : ℕ) (sees : See
   procedure_in (write items ends) here h s c w = both wholes blocks (write_all (env_at core r) here items) (line_end here ends) (outputs_in here items h s c w) (line_in core r wholes blocks here ends)
   procedure_in (count d target amount checked) here h s c w =
       let f = find (env_at core r) here target.place in
-      let found_is = find_in core r wholes blocks sees target.place here h.0.0.0 s.0 c.0 (front_listed wholes (wholes_of core here.whole target.place) (wholes_of core (here.whole + 1) amount) w) in
+      let found_is = find_in core r wholes blocks sees simple target.place here h.0.0.0 s.0 c.0 (front_listed wholes (wholes_of core here.whole target.place) (wholes_of core (here.whole + 1) amount) w) in
       let path = place_in core r wholes blocks (type_of target.place) here f.now (place_at core r sees true target.place here h.0.0.0 s.0 h.0.1) found_is.now in
       counted_in here d target amount checked f found_is.items path (amount_in amount (past (f.used + 1) (past_whole here)) h.1.0 s.1 c.1 (back_listed wholes (wholes_of core here.whole target.place) (wholes_of core (here.whole + 1) amount) w))
   procedure_in (include s e) here h p c w = element_in here Add s e h p.0 p.1 c.0 c.1 w
@@ -120,8 +120,8 @@ module _ (core : Core) (r : ℕ) (wholes : List Root) (blocks : ℕ) (sees : See
   assign_in target e here h leads v s s' c c' w =
       let typed = value_typed core sees (type_of target) e v in
       let behind = past 1 (past_whole here) in
-      let value = make_in core r wholes blocks sees e here typed.0 s' c' (front_listed wholes (wholes_of core here.whole e) (wholes_of core (here.whole + 1) target) w) in
-      let to = find_in core r wholes blocks sees target behind h s c (back_listed wholes (wholes_of core here.whole e) (wholes_of core (here.whole + 1) target) w) in
+      let value = make_in core r wholes blocks sees simple e here typed.0 s' c' (front_listed wholes (wholes_of core here.whole e) (wholes_of core (here.whole + 1) target) w) in
+      let to = find_in core r wholes blocks sees simple target behind h s c (back_listed wholes (wholes_of core here.whole e) (wholes_of core (here.whole + 1) target) w) in
       let own_is : IsWhole core (type_of target) → IsListed wholes (Temporary (type_of e) here.whole) = λ whole.
       let same = one_back_whole core (type_of e) (type_of target) typed.1 whole in
       value.1 (subst (IsWhole core) (sym same) whole) in
@@ -129,7 +129,7 @@ module _ (core : Core) (r : ℕ) (wholes : List Root) (blocks : ℕ) (sees : See
 
   result_in : (e : Expression) (here : Here) → IsTyped core sees e → IsSimple core e → IsCounted e → AreListed wholes (wholes_of core here.whole e) → AreNamed wholes blocks (stored_by (shape_of core (type_of e)) (type_of e) here (make (env_at core r) here e) (found none (at_path (result_path (env_at core r)))))
   result_in e here h s c w =
-      let value = make_in core r wholes blocks sees e here h s c w in
+      let value = make_in core r wholes blocks sees simple e here h s c w in
       stored_in core r wholes blocks (type_of e) (type_of e) here (make (env_at core r) here e) (found none (at_path (result_path (env_at core r)))) value.0 tt tt tt value.1
 
   -- ---- statements
@@ -173,7 +173,7 @@ module _ (core : Core) (r : ℕ) (wholes : List Root) (blocks : ℕ) (sees : See
         let (v, row, gives) = some_and (slice_get core.variables id.0) (λ v. (element : TypeId) × (GivesElements core (type_of e) element × Converts core into element v.of)) h.1.1 in
         let counter = counter_wholes core (n + 1) (slice_get core.variables id.0) in
         let rest = back_listed wholes (wholes_of core n e) (counter ++ statement_wholes core (n + 1) s) w in
-        let collection = make_in core r wholes blocks sees e here h.0 p.0 c.0 (front_listed wholes (wholes_of core n e) (counter ++ statement_wholes core (n + 1) s) w) in
+        let collection = make_in core r wholes blocks sees simple e here h.0 p.0 c.0 (front_listed wholes (wholes_of core n e) (counter ++ statement_wholes core (n + 1) s) w) in
         let own_next = own_of core wholes (n + 1) v.of (subst (λ o. AreListed wholes (counter_wholes core (n + 1) o)) row (front_listed wholes counter (statement_wholes core (n + 1) s) rest)) in
         let body = statement_in s (in_loop around) (in_turn here) h.2 p.1 c.1 (back_listed wholes counter (statement_wholes core (n + 1) s) rest) in
         both wholes blocks (make (env_at core r) here e).items (in_collection (env_at core r) here (type_of e) (type_at core (type_of e)) id into (work_of (env_at core r) (in_turn here) s)) collection.0
@@ -182,7 +182,7 @@ module _ (core : Core) (r : ℕ) (wholes : List Root) (blocks : ℕ) (sees : See
         let a = statements_in ss around (past 2 here) h.0 p.0 c.0 (front_listed wholes (wholes_of_statements core here.whole ss) (wholes_of_statements core here.whole ts) w) in
         let b = statements_in ts (in_finally around) (past 2 here) h.1 p.1 c.1 (back_listed wholes (wholes_of_statements core here.whole ss) (wholes_of_statements core here.whole ts) w) in
         ((λ n less. tt, λ k less. tt, a, b), tt)
-    statement_in (call e) around here h p c w = let found_is = find_in core r wholes blocks sees e here h p c w in found_is.items
+    statement_in (call e) around here h p c w = let found_is = find_in core r wholes blocks sees simple e here h p c w in found_is.items
     statement_in (assign target e) around here h p c w = assign_in target e here h.0 h.1 h.2 p.0 p.1 c.0 c.1 w
     statement_in exit around here h p c w = (omega arith, tt)
     statement_in (exit_with e) around here h p c w =

@@ -5,11 +5,11 @@ use Rattle.op_core.specs.Expression.{action_of, argument_of, call, construct, el
 use Rattle.op_core.specs.Nodes.{arguments_of, elements_of, expressions_of}
 use Rattle.op_core.specs.Sizes.{type_at}
 use Rattle.op_items.proofs.Finding.{acts_gives, find_begins, find_ends, find_goes_on, index_gives, makes, stands, step_gives, step_ok, two_gives}
-use Rattle.op_items.proofs.Productions.{call_found, construct_found, gather_ends, gather_goes_on, no_array, not_given, one_gathered, pass_adds, pass_ends, pass_given, range_gathered, root_gives, set_found, two_alike, two_made}
+use Rattle.op_items.proofs.Productions.{call_found, construct_found, gather_ends, gather_goes_on, listed_given, one_gathered, pass_adds, pass_ends, pass_given, range_gathered, root_gives, set_found, two_alike, two_made}
 use Rattle.op_items.specs.Adding.{Adds, Gives, env_view, found_view, two_on}
 use Rattle.op_items.specs.Setting.{here_view}
 use Rattle.op_meaning.specs.Expressions.{at_path, converted, found, make, past, prefix}
-use Rattle.op_meaning.specs.Items.{acts, none}
+use Rattle.op_meaning.specs.Items.{acts, by_copy, none}
 use Rattle.op_items.proofs.expression.+expression.Goals as goal
 
 pub find-loop-each-init : goal.find-loop-each-init
@@ -49,11 +49,8 @@ pass-loop-each-preserved t c = record {
 pub pass-returns : goal.pass-returns
 pass-returns t c = pass_ends c.args.setting c.args.items.now.items c.loop-each.items.items (here_view c.args.here) (here_view c.loop-each.here) c.args.arguments.now c.loop-each.each-index c.loop-each.given _ c.loop-each-test.false c.loop-each.invariant.adds c.loop-each.invariant.given
 
-pub pass_one-returns-in-Array : goal.pass_one-returns-in-Array
-pass_one-returns-in-Array t c = no_array c.args.setting c.args.items.now.items (here_view c.args.here) (argument_of c.args.argument.now) (expr_of c.in-Array.field-0) c.not_passed.result (ap argument_of c.in-Array.is) c.not_passed.ensures.given c.not_passed.ensures.used
-
 pub pass_one-returns-in-Elements : goal.pass_one-returns-in-Elements
-pass_one-returns-in-Elements t c = not_given c.args.setting c.args.items.now.items (here_view c.args.here) (argument_of c.args.argument.now) c.in-Elements.of (expressions_of c.in-Elements.values.items) c.not_passed-in-Elements.result (ap argument_of c.in-Elements.is ∙ list_nodes.listed_says c.in-Elements.of c.in-Elements.values) c.not_passed-in-Elements.ensures.given c.not_passed-in-Elements.ensures.used
+pass_one-returns-in-Elements t c = listed_given c.args.setting c.args.items.now.items (here_view c.args.here) (argument_of c.args.argument.now) c.in-Elements.of (expressions_of c.in-Elements.values.items) _ (ap argument_of c.in-Elements.is ∙ list_nodes.listed_says c.in-Elements.of c.in-Elements.values) (ap (by_copy c.in-Elements.of) c.whole_path-path.ensures) refl
 
 pub root-returns-in-Variable : goal.root-returns-in-Variable
 root-returns-in-Variable t c = root_gives c.args.setting c.args.items.now.items c.args.items.now.items c.at.result (here_view c.args.here) c.args.of (ap root_of c.in-Variable.is) (stands c.args.setting c.args.items.now.items c.at.result _ (c.at.ensures ∙ ap (λ p. found none (at_path p)) c.variable.ensures))
