@@ -3,3 +3,4 @@ pub mod Paths
 pub mod Points
 pub mod Composition
 pub mod Slowing
+pub mod Lifting

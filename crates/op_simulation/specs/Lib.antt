@@ -1,3 +1,4 @@
+pub mod Beside
 pub mod Matching
 pub mod Path
 pub mod Slowed

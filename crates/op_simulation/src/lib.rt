@@ -4,9 +4,11 @@
 //! by. Each function here carries one theorem in its contract, for any machines, and takes and answers nothing.
 #![tactic(auto)]
 
+mod beside;
 mod layers;
 mod theorems;
 
+pub use beside::{FoldedLayer, folds_lift};
 pub use layers::{Layer, Machine, Restated, TwoLayers, Watched, WatchedLayer};
 pub use theorems::{
     counter_in_four_steps, ends_are_above, facts_hold_below, facts_stay, moments_hold, one_end,

@@ -1,0 +1,11 @@
+pub mod Blocks
+pub mod Gaps
+pub mod Heads
+pub mod Holes
+pub mod IssuedWords
+pub mod Laws
+pub mod ReadBlocks
+pub mod SlotRows
+pub mod Stays
+pub mod Tables
+pub mod Words

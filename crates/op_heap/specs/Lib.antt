@@ -1,0 +1,10 @@
+pub mod Claims
+pub mod Demands
+pub mod Frames
+pub mod Heap
+pub mod Instances
+pub mod Memory
+pub mod Merging
+pub mod Reading
+pub mod Sizes
+pub mod Slots

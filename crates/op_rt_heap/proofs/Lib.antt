@@ -1,0 +1,17 @@
+pub mod BlockCalls
+pub mod CallFails
+pub mod Calling
+pub mod ExampleRuns
+pub mod GiveCalls
+pub mod GiveMemory
+pub mod GiveRun
+pub mod LinkedHoles
+pub mod Moves
+pub mod SlotCalls
+pub mod SlotRun
+pub mod StartRun
+pub mod TakeCalls
+pub mod TakeMemory
+pub mod TakeRun
+pub mod ValidRoutines
+pub mod Walks

@@ -1,0 +1,10 @@
+pub mod Claims
+pub mod Example
+pub mod Fail
+pub mod Give
+pub mod Names
+pub mod Parts
+pub mod Running
+pub mod Slots
+pub mod Start
+pub mod Take
