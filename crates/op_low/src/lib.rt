@@ -10,6 +10,7 @@ mod code;
 mod descriptor;
 mod ids;
 mod instruction;
+mod reading;
 mod theorems;
 mod validity;
 
@@ -19,5 +20,6 @@ pub use descriptor::{
 };
 pub use ids::VirtualRegister;
 pub use instruction::{Call, Instruction, Output};
+pub use reading::{is_either, leaves, other_block, reads, same, target, writes};
 pub use theorems::{example_runs, stopped_machine_halts, valid_code_runs_valid};
 pub use validity::valid;

@@ -1,9 +1,10 @@
 //! Whether low code names only what exists, and has its operands in range.
-ghost use Rattle.op_low.specs.Valid.{address_fits, branch_fits, call_at_fits, call_fits, const_fits, has, has_all, has_block, has_landing, has_symbol, has_three, has_two, imm_fits, is_sized, is_valid, is_valid_block, is_valid_instruction, is_valid_routine, leaves, leaves_if, local_fits, operands_fit, shift_fits, takes};
+ghost use Rattle.op_low.specs.Valid.{address_fits, branch_fits, call_at_fits, call_fits, const_fits, has, has_all, has_block, has_landing, has_symbol, has_three, has_two, imm_fits, is_sized, is_valid, is_valid_block, is_valid_instruction, is_valid_routine, leaves_if, local_fits, operands_fit, shift_fits, takes};
 ghost use Rattle.op_rv.specs.Encoding.{is_imm};
 ghost use Rattle.std.specs.Prelude.{◌≡◌, ◌-◌, length, slice_get};
 ghost use Rattle.std.specs.List.{list_all};
 
+use crate::reading::leaves;
 use crate::{Block, Call, Instruction, Low, Routine, VirtualRegister};
 use op_rv::{BlockId, RoutineId, Symbol};
 
@@ -67,20 +68,7 @@ fn is_left(code: &[Instruction]) -> bool
 {
     match code.last() {
         None => false,
-        Some(last) => leaves_block(last),
-    }
-}
-
-#[tactic(auto, unfolding(crate::specs::Valid::leaves))]
-fn leaves_block(instruction: &Instruction) -> bool
-    ensures { result ≡ leaves instruction.now }
-{
-    match instruction {
-        Instruction::Jump { .. } => true,
-        Instruction::Return { .. } => true,
-        Instruction::Raise => true,
-        Instruction::Exit { .. } => true,
-        _ => false,
+        Some(last) => leaves(last),
     }
 }
 

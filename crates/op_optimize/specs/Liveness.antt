@@ -8,6 +8,8 @@ use Rattle.op_low.specs.declared.instruction.Instruction.{Instruction}
 use Rattle.op_low.specs.declared.instruction.Instruction.TheVariants.{Const, Address, Local, Move, Alu, AluImm, Shift, Load, Store, Call, CallAt, Branch, Jump, Return, Raise, Read, Write, Exit}
 use Rattle.op_rv.specs.declared.symbol.BlockId.{BlockId}
 use Rattle.op_optimize.specs.Reading.{reads, writes}
+-- the block of its routine at which an instruction may go on
+pub use Rattle.op_low.specs.Reading.{other_block}
 
 -- how many registers are looked at; what the others have counts as read
 abbrev pub watched : ℕ
@@ -24,27 +26,6 @@ is_live live block r = if nat_le watched r.0 then true else has_bit (slice_get l
 abbrev pub is_live_in : List ℕ → Option BlockId → VirtualRegister → Bool
 is_live_in live None r = false
 is_live_in live (Some block) r = is_live live block r
-
--- the block of its routine at which an instruction may go on
-abbrev pub other_block : Instruction → Option BlockId
-other_block (Const to n) = None
-other_block (Address to symbol) = None
-other_block (Local to offset) = None
-other_block (Move to from) = None
-other_block (Alu op to left right) = None
-other_block (AluImm op to left imm) = None
-other_block (Shift op to left amount) = None
-other_block (Load op to base offset) = None
-other_block (Store op v base offset) = None
-other_block (Call id call) = call.landing
-other_block (CallAt address call) = call.landing
-other_block (Branch op left right block) = Some block
-other_block (Jump block) = Some block
-other_block (Return v) = None
-other_block Raise = None
-other_block (Read to buffer size) = None
-other_block (Write output buffer size) = None
-other_block (Exit status) = None
 
 -- whether a register may be read there
 unfoldable pub is_live_beyond : List ℕ → Instruction → VirtualRegister → Bool

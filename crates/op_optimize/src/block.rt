@@ -2,16 +2,13 @@
 ghost use Rattle.op_optimize.specs.Simplifying.{and_fact, contents_behind, destination, facts_behind, last_written, left_out, may_go, may_lose, may_write, or_nothing, serves_by, simplified, stays_as};
 ghost use Rattle.std.specs.Prelude.{◌≡◌, [], IfOk, Some};
 
-use crate::fact::{
-    Fact, Known, Value, behind_write, known_behind, mentions, same, with_fact, without,
-};
+use crate::fact::{Fact, Known, Value, behind_write, known_behind, mentions, with_fact, without};
 use crate::liveness::{is_dead, is_live_beyond};
-use crate::reading::target;
 use crate::rewriting::rewritten;
 use crate::value::value_behind;
 use crate::worth::serves;
 use op_base::{NoMemory, Sequence};
-use op_low::{Instruction, VirtualRegister};
+use op_low::{Instruction, VirtualRegister, same, target};
 use std::alloc::Global;
 
 /// How a block is gone through.

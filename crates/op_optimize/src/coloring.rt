@@ -4,9 +4,8 @@
 use crate::dataflow::{bit, bits_beyond, has_bit, read_bits};
 use crate::frequency::{filled, uses_in};
 use crate::liveness::WATCHED;
-use crate::reading::{leaves, target};
 use op_base::NoMemory;
-use op_low::{Block, Instruction, Routine, VirtualRegister};
+use op_low::{Block, Instruction, Routine, VirtualRegister, leaves, target};
 use std::alloc::Global;
 
 /// The new number of each register, and how many there are.

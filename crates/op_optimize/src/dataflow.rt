@@ -2,10 +2,9 @@
 ghost use Rattle.op_optimize.specs.Liveness.{covers as is_covered_by, covers_below as are_covered_below, covers_blocks as are_covered, is_closed as is_closed_table, is_live as is_live_at_block, needs as is_needed};
 ghost use Rattle.std.specs.Prelude.{◌≡◌, ◌||◌, not, min};
 
-use crate::liveness::{WATCHED, goes_to, is_live_at, needs};
-use crate::reading::{leaves, target};
+use crate::liveness::{WATCHED, is_live_at, needs};
 use op_base::NoMemory;
-use op_low::{Block, Instruction, Routine, VirtualRegister};
+use op_low::{Block, Instruction, Routine, VirtualRegister, leaves, other_block, target};
 use op_rv::BlockId;
 use std::alloc::Global;
 
@@ -60,7 +59,7 @@ fn bits_at(live: &[u64], block: BlockId) -> u64 {
 
 /// The registers that may be read at the block to which an instruction may go.
 pub fn bits_beyond(live: &[u64], instruction: &Instruction) -> u64 {
-    match goes_to(instruction) {
+    match other_block(instruction) {
         None => 0,
         Some(block) => bits_at(live, block),
     }

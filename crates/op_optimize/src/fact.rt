@@ -1,13 +1,11 @@
 //! What is known of registers while the code of a block is gone through.
 ghost use Rattle.op_optimize.specs.Contents.{content_of, has_already, is_content, is_known, known_behind, others, same_content, same_symbol};
 ghost use Rattle.op_optimize.specs.Facts.{behind_write, is_copy_of, look_up, mentions, source, source_by, value_in, with_fact, without};
-ghost use Rattle.op_optimize.specs.Reading.{same as are_same};
 ghost use Rattle.std.specs.Prelude.{◌≡◌, ◌++◌, IfOk, OnOk};
 ghost use Rattle.std.specs.List.{list_any};
 
-use crate::reading::is_either;
 use op_base::NoMemory;
-use op_low::{Instruction, VirtualRegister};
+use op_low::{Instruction, VirtualRegister, is_either, same};
 use op_rv::{BranchOp, Symbol};
 use std::alloc::Global;
 
@@ -52,12 +50,6 @@ pub enum Content {
 pub struct Known {
     pub register: VirtualRegister,
     pub content: Content,
-}
-
-pub fn same(a: VirtualRegister, b: VirtualRegister) -> bool
-    ensures { result ≡ are_same a b }
-{
-    a.0 == b.0
 }
 
 // ---- values

@@ -2,9 +2,8 @@
 
 use crate::dataflow::{bit, has_bit, read_bits};
 use crate::liveness::WATCHED;
-use crate::reading::target;
 use op_base::NoMemory;
-use op_low::{Block, Instruction};
+use op_low::{Block, Instruction, target};
 use op_rv::BlockId;
 use std::alloc::Global;
 

@@ -4,11 +4,9 @@ ghost use Rattle.op_optimize.specs.Renaming.{all_begin_well as each_begins_well,
 ghost use Rattle.std.specs.Prelude.{◌≡◌};
 
 use crate::dataflow::is_closed;
-use crate::fact::same;
 use crate::liveness::{WATCHED, is_dead, is_live_at};
-use crate::reading::target;
 use crate::renaming::renamed;
-use op_low::{Block, Instruction, Routine, VirtualRegister};
+use op_low::{Block, Instruction, Routine, VirtualRegister, same, target};
 
 fn is_moved(instruction: &Instruction, register: VirtualRegister) -> bool
     ensures { result ≡ is_moved_by instruction.now register }

@@ -9,7 +9,6 @@ mod frequency;
 mod harmless;
 mod liveness;
 mod program;
-mod reading;
 mod renaming;
 mod rewriting;
 mod theorems;

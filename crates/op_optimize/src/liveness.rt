@@ -1,9 +1,8 @@
 //! Whether what a register has may still be read.
-ghost use Rattle.op_optimize.specs.Liveness.{is_dead as is_shown_dead, is_live as is_live_at_block, is_live_beyond as goes_on_live, is_live_in, is_lost as loses, is_read_or_live, needs as is_needed, other_block, shows_dead, window};
+ghost use Rattle.op_optimize.specs.Liveness.{is_dead as is_shown_dead, is_live as is_live_at_block, is_live_beyond as goes_on_live, is_live_in, is_lost as loses, is_read_or_live, needs as is_needed, shows_dead, window};
 ghost use Rattle.std.specs.Prelude.{◌≡◌, take, slice_get};
 
-use crate::reading::{leaves, reads, writes};
-use op_low::{Instruction, VirtualRegister};
+use op_low::{Instruction, VirtualRegister, leaves, other_block, reads, writes};
 use op_rv::BlockId;
 
 /// How many instructions are looked at ahead.
@@ -42,25 +41,12 @@ fn is_live_at_some(live: &[u64], block: Option<BlockId>, register: VirtualRegist
     }
 }
 
-/// The block of its routine at which an instruction may go on.
-pub fn goes_to(instruction: &Instruction) -> Option<BlockId>
-    ensures { result ≡ other_block instruction.now }
-{
-    match instruction {
-        Instruction::Branch { block, .. } => Some(*block),
-        Instruction::Jump { block } => Some(*block),
-        Instruction::Call { call, .. } => call.landing,
-        Instruction::CallAt { call, .. } => call.landing,
-        _ => None,
-    }
-}
-
 /// Whether a register may be read at the block to which an instruction may go.
 #[tactic(auto, unfolding(crate::specs::Liveness::is_live_beyond))]
 pub fn is_live_beyond(live: &[u64], instruction: &Instruction, register: VirtualRegister) -> bool
     ensures { result ≡ goes_on_live live.now instruction.now register }
 {
-    is_live_at_some(live, goes_to(instruction), register)
+    is_live_at_some(live, other_block(instruction), register)
 }
 
 fn is_kept(live: &[u64], instruction: &Instruction, register: VirtualRegister) -> bool

@@ -4,11 +4,10 @@ ghost use Rattle.std.specs.Prelude.{◌≡◌, IfOk, map};
 
 use crate::coloring::{Coloring, coloring_of};
 use crate::dataflow::live_in;
-use crate::fact::same;
 use crate::harmless::is_renaming;
 use crate::liveness::WATCHED;
 use op_base::{NoMemory, Sequence};
-use op_low::{Block, Call, Instruction, Routine, VirtualRegister};
+use op_low::{Block, Call, Instruction, Routine, VirtualRegister, same};
 use std::alloc::Global;
 
 /// The new number of a register: the table has those of the first ones, and the others keep theirs.

@@ -2,11 +2,10 @@
 ghost use Rattle.op_optimize.specs.Worth.{changes_truth, copy_serves, number_serves, serves, takes_number, tests_truth, truth_serves};
 ghost use Rattle.std.specs.Prelude.{◌≡◌};
 
-use crate::fact::{Value, same};
+use crate::fact::Value;
 use crate::liveness::{is_dead, is_live_beyond};
-use crate::reading::{leaves, reads, writes};
 use crate::value::{folded, is_commutative};
-use op_low::{Instruction, VirtualRegister};
+use op_low::{Instruction, VirtualRegister, leaves, reads, same, writes};
 use op_rv::{BranchOp, ImmOp};
 
 /// How many instructions are looked at ahead.

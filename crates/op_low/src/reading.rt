@@ -1,10 +1,24 @@
 //! What an instruction reads and writes, and where the code goes on behind it.
+ghost use Rattle.op_low.specs.Reading.{either, is_argument as is_passed, other_block as goes_on_at, reads as is_read_by, same as are_same, target_of, writes as is_written_by};
 ghost use Rattle.op_low.specs.Valid.{leaves as is_left_by};
-ghost use Rattle.op_optimize.specs.Reading.{either, is_argument as is_passed, reads as is_read_by, target_of, writes as is_written_by};
 ghost use Rattle.std.specs.Prelude.{◌≡◌};
 
-use crate::fact::same;
-use op_low::{Call, Instruction, VirtualRegister};
+use crate::{Call, Instruction, VirtualRegister};
+use op_rv::BlockId;
+
+/// Whether two are one register.
+pub fn same(a: VirtualRegister, b: VirtualRegister) -> bool
+    ensures { result ≡ are_same a b }
+{
+    a.0 == b.0
+}
+
+/// Whether one of two is the register.
+pub fn is_either(a: VirtualRegister, b: VirtualRegister, register: VirtualRegister) -> bool
+    ensures { result ≡ either a b register }
+{
+    same(a, register) || same(b, register)
+}
 
 #[tactic(auto, unfolding(crate::specs::Reading::is_argument))]
 fn is_argument(call: &Call, register: VirtualRegister) -> bool
@@ -45,12 +59,6 @@ pub fn reads(instruction: &Instruction, register: VirtualRegister) -> bool
     }
 }
 
-pub fn is_either(a: VirtualRegister, b: VirtualRegister, register: VirtualRegister) -> bool
-    ensures { result ≡ either a b register }
-{
-    same(a, register) || same(b, register)
-}
-
 /// The register that an instruction writes.
 #[tactic(auto, unfolding(crate::specs::Reading::target_of))]
 pub fn target(instruction: &Instruction) -> Option<VirtualRegister>
@@ -82,10 +90,22 @@ pub fn writes(instruction: &Instruction, register: VirtualRegister) -> bool
     }
 }
 
-/// Whether the code may go on at another block of its routine.
+/// The block of its routine at which the code may go on, beside the next instruction: that of a branch or a jump, or where a call goes on
+/// that raises.
+pub fn other_block(instruction: &Instruction) -> Option<BlockId>
+    ensures { result ≡ goes_on_at instruction.now }
+{
+    match instruction {
+        Instruction::Branch { block, .. } => Some(*block),
+        Instruction::Jump { block } => Some(*block),
+        Instruction::Call { call, .. } => call.landing,
+        Instruction::CallAt { call, .. } => call.landing,
+        _ => None,
+    }
+}
 
-/// Whether the code never goes on behind it.
-#[tactic(auto, unfolding(op_low::specs::Valid::leaves))]
+/// Whether the code never goes on at the next instruction.
+#[tactic(auto, unfolding(crate::specs::Valid::leaves))]
 pub fn leaves(instruction: &Instruction) -> bool
     ensures { result ≡ is_left_by instruction.now }
 {
