@@ -17,8 +17,8 @@ use Rattle.op_places.specs.declared.spot.Spot.{Spot}
 use Rattle.op_low.specs.State.{State, block_of}
 use Rattle.op_low.specs.declared.ids.VirtualRegister.{VirtualRegister}
 use Rattle.op_low.specs.declared.instruction.Instruction.{Instruction as LowInstruction}
-use Rattle.op_meaning.specs.Actions.{at_place, perform}
-use Rattle.op_meaning.specs.Paths.{place_of as place_meant}
+use Rattle.op_meaning.specs.Actions.{perform}
+use Rattle.op_meaning.specs.Paths.{at_place, place_of as place_meant}
 use Rattle.op_meaning.specs.Shapes.{composite, shape_of}
 use Rattle.op_meaning.specs.Values.{Place, number_in, Reached as Met, reached as met, failing}
 use Rattle.op_meaning.specs.World.{value_at, with_value}
@@ -132,7 +132,7 @@ module _ (g : Setting) (fit : IsFitting g) (m : MirState) (l : State) (floors : 
     copy_plain : (o p : Met Place) → place_meant m.world (view_path from) ≡ o → place_meant m.world (view_path to) ≡ p → IsPlainWorld (copied o p).world
     unfolding perform
     copy_plain o p e f =
-        let plain : IsPlainWorld (copied (place_meant m.world (view_path from)) (place_meant m.world (view_path to))).world = plain_perform g.core fit.program.exceptions (view_action g.core (here m floors).number (Copy of to from)) m.world next.stays.plain in
+        let plain : IsPlainWorld (copied (place_meant m.world (view_path from)) (place_meant m.world (view_path to))).world = plain_perform g.core fit.program.exceptions (λ n. 0) (view_action g.core (here m floors).number (Copy of to from)) m.world tt next.stays.plain in
         subst (λ o. IsPlainWorld (copied o p).world) e (subst (λ p. IsPlainWorld (copied (place_meant m.world (view_path from)) p).world) f plain)
 
     -- ---- registers of the spots

@@ -134,7 +134,7 @@ module _ (g : Setting) (fit : IsFitting g) (m : MirState) (l : State) (floors : 
   -- a first value names no instance
   plain_with : (w : FirstValue) → IsPlainWorld (with_this (first_of g.core of w))
   unfolding perform
-  plain_with w = subst (λ d. IsPlainWorld (with_value (all_of (local d v.0)) (first_of g.core of w) m.world)) next.stays.depth (plain_perform g.core fit.program.exceptions (begin_with v.0 of w) m.world next.stays.plain)
+  plain_with w = subst (λ d. IsPlainWorld (with_value (all_of (local d v.0)) (first_of g.core of w) m.world)) next.stays.depth (plain_perform g.core fit.program.exceptions (λ n. 0) (begin_with v.0 of w) m.world tt next.stays.plain)
 
   -- ---- low code
 

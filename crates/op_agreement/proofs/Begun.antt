@@ -24,6 +24,7 @@ use Rattle.op_mir.specs.Machine.{MirState}
 use Rattle.op_mir.specs.Plain.{IsPlainWorld}
 use Rattle.op_mir.specs.declared.ids.LocalId.{LocalId}
 use Rattle.op_mir.specs.declared.path.Root.TheVariants.{Local}
+use Rattle.op_agreement.proofs.HeapKept.{heap_below}
 use Rattle.op_agreement.proofs.Charting.{live_apart, live_stands, local_stands, same_is}
 use Rattle.op_agreement.proofs.Counting.{count_below}
 use Rattle.op_agreement.proofs.Sparing.{spare_fits}
@@ -74,6 +75,7 @@ module _ (g : Setting) (floors : ℕ → Floor) (m : MirState) (l : State) (s : 
             (record { floors = λ d low. refl; variables = λ d u q low known home. below d u low; places = λ d u low known. refl }) s.callers;
         lie = λ h is. subst (λ x. Lies (arrangement_of g.core (type_held g.core floors h)) x l.memory (address_of g floors h)) (live h is) (s.lie h is);
         fixed = s.fixed;
+        heap = s.heap;
         due = s.due;
         bytes = s.bytes;
         output = s.output;
@@ -223,6 +225,7 @@ module _ (g : Setting) (fit : IsFitting g) (floors : ℕ → Floor) (m : MirStat
           callers = subst (λ w. CallersStand g floors values m.world.bound m.callers l.callers m.routine w l.limit l.room m.charged) (sym first) moved;
           lie = all_lie there;
           fixed = λ y low fixed. bottom_kept y low ∙ s.fixed y low fixed;
+          heap = heap_below g fit l.memory memory bottom_kept s.heap;
           due = count_below g fit (length m.pending) l.memory memory bottom_kept s.due;
           bytes = bytes;
           output = s.output;

@@ -22,7 +22,7 @@ use Rattle.op_meaning.specs.Leaving.{name_in}
 use Rattle.op_meaning.specs.Machine.{label_has}
 use Rattle.op_meaning.specs.Numbers.{is_true}
 use Rattle.op_meaning.specs.World.{with_number, number_at}
-use Rattle.op_mir.specs.Machine.{Code, MirState, arm_for, dispatched, execute, go_if, go_to, mir_cost}
+use Rattle.op_mir.specs.Machine.{Code, MirState, arm_for, code_rules, dispatched, execute, go_if, go_to, mir_cost}
 use Rattle.op_mir.specs.Valid.{action_fits, has}
 use Rattle.op_mir.specs.View.{view_arm}
 use Rattle.op_mir.specs.declared.action.Action.TheVariants.{Constant, Compute}
@@ -135,7 +135,7 @@ module _ (g : Setting) (fit : IsFitting g) (m : MirState) (l : State) (floors : 
       let y = number_at m.world (right_of c).0 in
       answered g fit m l floors (Act (Compute c) landing) is next (computation_code bank c) (to_of c) (meant c x y) refl some (computation_short bank c) (λ light. light) (behind_act next.on)
       (computation_answers bank c l.top.registers x y words fits.apart (a.kept.temporaries (left_of c).0 fits.first) (a.kept.temporaries (right_of c).0 fits.second))
-      (step_here g fit m l floors (Act (Compute c) landing) is next ∙ ap (λ w. record m { world = w; work = rest_above g m l floors (Act (Compute c) landing) is next }) (performed g.core c m.world))
+      (step_here g fit m l floors (Act (Compute c) landing) is next ∙ ap (λ w. record m { world = w; work = rest_above g m l floors (Act (Compute c) landing) is next }) (performed g.core ((code_rules (managed g)).number (record m { work = rest_above g m l floors (Act (Compute c) landing) is next })) c m.world))
 
   -- ---- branches
 

@@ -15,7 +15,7 @@ use Rattle.op_mir.specs.Machine.{MirCaller}
 use Rattle.op_mir.specs.declared.path.Root.TheVariants.{Local, Temporary}
 use Rattle.op_mir.specs.declared.path.Root.{Root}
 use Rattle.op_agreement.specs.Chart.{Floor, Live, address_of, stored_offset, type_held}
-use Rattle.op_agreement.specs.Fitting.{DueStands, IsFitting}
+use Rattle.op_agreement.specs.Fitting.{DueStands, IsFitting, IsOwned}
 use Rattle.op_agreement.specs.Settings.{Apart, Setting, StoredAt, type_stored}
 use Rattle.op_agreement.specs.Stands.{CallersStand, IsFloor}
 use Rattle.op_constants.proofs.TypesArranged.{type_is_arranged}
@@ -144,6 +144,13 @@ module _ (g : Setting) (fit : IsFitting g) (floors : ℕ → Floor) (depth limit
   due_apart at due (local d v) (low, stored) = let base = s.lowest d low in let below = due.below in inr (omega arith)
   due_apart at due (temporary d of n) (low, stored) = let base = s.lowest d low in let below = due.below in inr (omega arith)
   due_apart at due (object name) live = absurd live
+
+  -- a byte of the heap's is none of it
+  pub owned_apart : (x : ℕ) → IsOwned g x → (h : Holder) → Live g.core floors depth h → (x < address_of g floors h) ⊎ (address_of g floors h + size_in g.core (type_held g.core floors h) ≤ x)
+  owned_apart x owned (global v) live = owned.globals v live
+  owned_apart x owned (local d v) (low, stored) = let base = s.lowest d low in let below = owned.below in inl (omega arith)
+  owned_apart x owned (temporary d of n) (low, stored) = let base = s.lowest d low in let below = owned.below in inl (omega arith)
+  owned_apart x owned (object name) live = absurd live
 
   -- ---- two of them lie apart
 

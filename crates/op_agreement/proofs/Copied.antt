@@ -234,6 +234,7 @@ module _ (g : Setting) (fit : IsFitting g) (m : MirState) (l : State) (floors : 
           callers = subst (λ x. CallersStand g floors (with_value p v m.world).memory m.world.bound m.callers l.callers m.routine x l.limit l.room m.charged) (sym first) moved;
           lie = nothing_put;
           fixed = s.fixed;
+          heap = s.heap;
           due = s.due;
           bytes = s.bytes;
           output = s.output;

@@ -14,7 +14,7 @@ use Rattle.op_mir.specs.View.{view_instruction}
 use Rattle.op_mir.specs.declared.action.Action.TheVariants.{Constant, Load, Store, Copy, Look, BeginWith, Pick, Compute, Do}
 use Rattle.op_mir.specs.declared.action.Action.{Action}
 use Rattle.op_mir.specs.declared.ids.BlockId.{BlockId}
-use Rattle.op_mir.specs.declared.instruction.Instruction.TheVariants.{Act, Call, Jump, When, Unless, Switch, Dispatch, MakeDue, Stop, Return}
+use Rattle.op_mir.specs.declared.instruction.Instruction.TheVariants.{Act, Call, Jump, When, Unless, Switch, Dispatch, MakeDue, OpenTemporaries, EndTemporary, Stop, Return}
 use Rattle.op_mir.specs.declared.instruction.Instruction.{Instruction}
 use Rattle.op_agreement.proofs.Assigning.{copy_comes}
 use Rattle.op_agreement.proofs.Beginning.{begin_with_comes}
@@ -85,6 +85,8 @@ module _ (g : Setting) (fit : IsFitting g) (m : MirState) (l : State) (ending : 
   instruction_comes (Switch t arms) is next = switch_comes g fit m l floors is t arms next
   instruction_comes (Dispatch t block) is next = dispatch_comes g fit m l floors is t block next
   instruction_comes (MakeDue f) is next = make_due_comes g fit m l floors is f due next
+  instruction_comes (OpenTemporaries ts) is next = absurd next.fine
+  instruction_comes (EndTemporary t) is next = absurd next.fine
   instruction_comes (Stop t) is next = stop_comes g fit m l floors is t next
   instruction_comes Return is next = return_comes g fit m l floors is due next
 

@@ -22,6 +22,7 @@ use Rattle.op_rv.specs.State.{with_bytes, word_at}
 use Rattle.op_rv.specs.Step.{can_access, offset_from}
 use Rattle.op_rv.specs.declared.instruction.LoadOp.TheVariants.{Lw}
 use Rattle.op_rv.specs.declared.instruction.StoreOp.TheVariants.{Sw}
+use Rattle.op_agreement.proofs.HeapKept.{heap_stays}
 use Rattle.op_agreement.proofs.Charting.{due_apart, live_stands}
 use Rattle.op_agreement.proofs.Copying.{having}
 use Rattle.op_agreement.proofs.Going.{Goes, goes_one, goes_to}
@@ -132,6 +133,7 @@ module _ (g : Setting) (fit : IsFitting g) (closes : has_closing g.core ≡ true
         callers = subst (λ x. CallersStand g floors m.world.memory m.world.bound m.callers l.callers m.routine x l.limit l.room m.charged) (sym first) s.callers;
         lie = lie_counted;
         fixed = fixed_counted;
+        heap = heap_stays g fit l.memory counted (λ x owned. outside x owned.due) s.heap;
         bytes = bounded_below l.limit l.memory (due_address g) (bytes_low_first 0 4 (g.stack + length pending)) s.bytes (λ k. four-bounded (g.stack + length pending) k);
         output = s.output;
         errors = s.errors;

@@ -28,6 +28,7 @@ use Rattle.op_mir.specs.Plain.{IsPlainWorld}
 use Rattle.op_mir.specs.declared.path.Root.{Root}
 use Rattle.op_mir.specs.declared.path.Root.TheVariants.{Local, Temporary}
 use Rattle.op_rv.proofs.Memory.{with_bytes-below, with_bytes-within, zeros_get}
+use Rattle.op_agreement.proofs.HeapKept.{heap_below}
 use Rattle.op_agreement.proofs.Charting.{live_stands}
 use Rattle.op_agreement.proofs.Counting.{count_below}
 use Rattle.op_agreement.proofs.Entering.{Enters, above_at, at_deeper, below_begun, bound_below, entered_is, few_given, is_stored, locals_here, locals_of, memory_begun, parameter_is, register_free, registers_begun, row_there, value_below, value_global, value_held, value_temporary, value_unset, values_at, world_after, world_begun, zero_stored, zero_temporary}
@@ -265,6 +266,7 @@ module _ (g : Setting) (fit : IsFitting g) (m : MirState) (l : State) (floors ne
             (λ d v low. bound_below g fit m l floors new r given c lcs room first result words e d v (omega arith));
         lie = lie_begun;
         fixed = λ x low fixed. memory_below x (omega arith) ∙ s.fixed x low fixed;
+        heap = heap_below g fit l.memory memory (λ x low. memory_below x (omega arith)) s.heap;
         due = count_below g fit (length m.pending) l.memory memory (λ x low. memory_below x (omega arith)) s.due;
         bytes = λ x low. small x low (cases_lt x l.limit);
         output = s.output;

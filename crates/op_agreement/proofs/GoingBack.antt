@@ -83,6 +83,7 @@ module _ (g : Setting) (fit : IsFitting g) (m : MirState) (l : State) (floors : 
         callers = callers;
         lie = λ h live. s.lie h (live_deeper g.core floors (length cs) (length m.callers) h (omega arith) live);
         fixed = s.fixed;
+        heap = s.heap;
         bytes = λ x low. s.bytes x (omega arith);
         output = s.output;
         errors = s.errors;

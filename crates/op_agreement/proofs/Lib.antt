@@ -28,6 +28,8 @@ pub mod Framing
 pub mod Giving
 pub mod Going
 pub mod GoingBack
+pub mod HeapChanged
+pub mod HeapKept
 pub mod Homes
 pub mod Keeping
 pub mod Lengths

@@ -21,9 +21,9 @@ use Rattle.op_low.specs.State.{State, block_of}
 use Rattle.op_low.specs.declared.ids.VirtualRegister.{VirtualRegister}
 use Rattle.op_low.specs.declared.instruction.Instruction.TheVariants.{Load as LoadWord, Move}
 use Rattle.op_low.specs.declared.instruction.Instruction.{Instruction as LowInstruction}
-use Rattle.op_meaning.specs.Actions.{at_place, perform}
+use Rattle.op_meaning.specs.Actions.{perform}
 use Rattle.op_meaning.specs.Errors.{failed}
-use Rattle.op_meaning.specs.Paths.{place_of as place_meant}
+use Rattle.op_meaning.specs.Paths.{at_place, place_of as place_meant}
 use Rattle.op_meaning.specs.Shapes.{composite, shape_by, shape_of}
 use Rattle.op_meaning.specs.Values.{Place, local, number_in, Reached as Met, reached as met, failing}
 use Rattle.op_meaning.specs.World.{value_at, with_number}

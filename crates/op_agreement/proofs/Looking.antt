@@ -29,8 +29,8 @@ use Rattle.op_low.specs.State.{State}
 use Rattle.op_low.specs.declared.ids.VirtualRegister.{VirtualRegister}
 use Rattle.op_low.specs.declared.instruction.Instruction.{Instruction as LowInstruction}
 use Rattle.op_low.specs.declared.instruction.Instruction.TheVariants.{Const}
-use Rattle.op_meaning.specs.Actions.{at_place, perform}
-use Rattle.op_meaning.specs.Paths.{place_of as place_meant}
+use Rattle.op_meaning.specs.Actions.{perform}
+use Rattle.op_meaning.specs.Paths.{at_place, place_of as place_meant}
 use Rattle.op_meaning.specs.Values.{Place, all_of, local, Reached as Met, reached as met, failing}
 use Rattle.op_mir.specs.Machine.{MirState, execute, mir_step, mir_cost}
 use Rattle.op_mir.specs.Valid.{action_fits}

@@ -24,7 +24,7 @@ use Rattle.op_mir.specs.declared.code.Mir.{Mir}
 use Rattle.op_mir.specs.declared.code.Routine.{Routine}
 use Rattle.op_mir.specs.declared.instruction.Given.TheVariants.{ByValue, ByPlace, ByCopy}
 use Rattle.op_mir.specs.declared.instruction.Given.{Given}
-use Rattle.op_mir.specs.declared.instruction.Instruction.TheVariants.{Act, Call, Jump, When, Unless, Switch, Dispatch, MakeDue, Stop, Return}
+use Rattle.op_mir.specs.declared.instruction.Instruction.TheVariants.{Act, Call, Jump, When, Unless, Switch, Dispatch, MakeDue, OpenTemporaries, EndTemporary, Stop, Return}
 use Rattle.op_mir.specs.declared.instruction.Instruction.{Instruction}
 use Rattle.op_mir.specs.declared.instruction.Receiver.TheVariants.{Nowhere, Temporary as ToTemporary, Place}
 use Rattle.op_mir.specs.declared.instruction.Receiver.{Receiver}
@@ -121,6 +121,8 @@ module _ (core : Core) (r : ℕ) where
   instruction_may roots (Switch t arms) all may = all
   instruction_may roots (Dispatch t block) all may = all
   instruction_may roots (MakeDue f) all may = all
+  instruction_may roots (OpenTemporaries ts) all may = all
+  instruction_may roots (EndTemporary t) all may = all
   instruction_may roots (Stop t) all may = all
   instruction_may roots Return all may = all
 
@@ -200,6 +202,8 @@ module _ (core : Core) (r : ℕ) where
   fine_names mir x small (Switch t arms) fine = tt
   fine_names mir x small (Dispatch t block) fine = tt
   fine_names mir x small (MakeDue f) fine = tt
+  fine_names mir x small (OpenTemporaries ts) fine = absurd fine
+  fine_names mir x small (EndTemporary t) fine = absurd fine
   fine_names mir x small (Stop t) fine = tt
   fine_names mir x small Return fine = tt
 

@@ -23,6 +23,7 @@ use Rattle.op_meaning.specs.Values.{Value, Holder, global, local, temporary, obj
 use Rattle.op_meaning.specs.World.{World}
 use Rattle.op_mir.specs.Machine.{MirCaller, MirState}
 use Rattle.op_mir.specs.declared.path.Root.TheVariants.{Local}
+use Rattle.op_agreement.proofs.HeapKept.{heap_below}
 use Rattle.op_agreement.proofs.Charting.{live_apart, live_stands, local_stands, same_is}
 use Rattle.op_agreement.proofs.Counting.{count_below}
 use Rattle.op_agreement.proofs.Entered.{plain_at}
@@ -236,6 +237,7 @@ module _ (g : Setting) (fit : IsFitting g) (m : MirState) (l : State) (floors ne
             callers = subst (λ x. CallersStand g new (values (k + 1)) world.bound (c ∷ m.callers) lk.callers r x lk.limit lk.room (above k).charged) (sym first_is) moved;
             lie = lie_on;
             fixed = λ x low fixed. changed x (omega arith) (inl (omega arith)) ∙ was.fixed x low fixed;
+            heap = heap_below g fit lk.memory memory (λ x low. changed x (omega arith) (inl (omega arith))) was.heap;
             due = count_below g fit (length m.pending) lk.memory memory (λ x low. changed x (omega arith) (inl (omega arith))) was.due;
             bytes = bytes;
             output = was.output;

@@ -5,6 +5,7 @@ use Rattle.std.specs.List.{list_all, list_any}
 use Rattle.std.proofs.lemmas.Bool.{and_parts}
 use Rattle.std.proofs.lemmas.Bool.Decides.{nat_tests}
 use Rattle.std.proofs.lemmas.List.{length-map}
+use Rattle.op_agreement.proofs.HeapKept.{heap_below}
 use Rattle.op_agreement.proofs.Branching.{begins_here, has_of, step_here}
 use Rattle.op_agreement.proofs.Cases.{behind_act}
 use Rattle.op_agreement.proofs.Charting.{live_stands}
@@ -21,7 +22,7 @@ use Rattle.op_agreement.proofs.Updating.{floors_here, limit_here}
 use Rattle.op_agreement.specs.Chart.{AllLie, Floor, address_of, type_held}
 use Rattle.op_agreement.specs.Coding.{code_for}
 use Rattle.op_agreement.specs.Fitting.{IsFitting}
-use Rattle.op_agreement.specs.Primitives.{CallFails, CallsTo, Does, StandFor, Words, listed}
+use Rattle.op_agreement.specs.Primitives.{CallFails, CallsTo, Does, DoesBy, StandFor, Words, listed}
 use Rattle.op_agreement.specs.Settings.{AreLiterals, Setting, managed}
 use Rattle.op_agreement.specs.Stands.{CallersStand, Stands, Stays}
 use Rattle.op_agreement.specs.Steps.{most_for_one}
@@ -39,7 +40,7 @@ use Rattle.op_constants.specs.Literals.{literals_of, operands_literals}
 use Rattle.op_constants.specs.Texts.{number_of}
 use Rattle.op_primitives.proofs.PrimitiveRows.{served}
 use Rattle.op_expand.specs.Calls.{result_address}
-use Rattle.op_primitives.specs.Primitives.{destination_register, operands_code, operands_passed, routine_of}
+use Rattle.op_primitives.specs.Primitives.{call_by, destination_register, operands_code, operands_passed, primitive_code}
 use Rattle.op_places.specs.declared.frame.Frame.{Frame}
 use Rattle.op_low.specs.Machine.{act, low_machine, cost, cost_by}
 use Rattle.op_low.specs.State.{State}
@@ -49,20 +50,21 @@ use Rattle.op_low.specs.declared.instruction.Instruction.{Instruction as LowInst
 use Rattle.op_low.specs.declared.instruction.Instruction.TheVariants.{Address, Call, Const}
 use Rattle.op_meaning.specs.Actions.{perform}
 use Rattle.op_meaning.specs.Errors.{failed}
-use Rattle.op_meaning.specs.Primitives.{EachOperand, IsTaken, Outcome, gives, meaning, performed, signature, sort_of, values_of}
-use Rattle.op_meaning.specs.Values.{Reached, reached, failing, Value, number as number_value, number_in}
+use Rattle.op_meaning.specs.Primitives.{EachOperand, IsTaken, Outcome, Values, a_literal, gives, meaning, performed, signature, sort_of, values_of}
+use Rattle.op_meaning.specs.Values.{Reached, reached, failing, and_then, Value, number as number_value, number_in}
 use Rattle.op_meaning.specs.World.{World, number_at, written}
 use Rattle.op_meaning.specs.declared.primitive.Primitive.{Primitive}
 use Rattle.op_meaning.specs.declared.primitive.Sort.{Sort}
 use Rattle.op_mir.specs.Code.{Instr}
-use Rattle.op_mir.specs.Machine.{MirState, execute, mir_step, mir_cost, mir_effort}
+use Rattle.op_mir.specs.Machine.{MirState, code_rules, execute, mir_step, mir_cost, mir_effort}
 use Rattle.op_mir.specs.Valid.{action_fits, destination_fits, operand_fits}
 use Rattle.op_mir.specs.View.{view_destination, view_operand}
 use Rattle.op_mir.specs.declared.action.Action.TheVariants.{Do}
 use Rattle.op_mir.specs.declared.action.Destination.{Destination}
-use Rattle.op_mir.specs.declared.action.Destination.TheVariants.{Unused, InTemporary}
+use Rattle.op_mir.specs.declared.action.Destination.TheVariants.{Unused, InTemporary, InNew, IntoPlace, OverPlace}
 use Rattle.op_mir.specs.declared.action.Operand.{Operand}
-use Rattle.op_mir.specs.declared.action.Operand.TheVariants.{Number, Literal}
+use Rattle.op_mir.specs.declared.action.Operand.TheVariants.{Number, Text, Literal}
+use Rattle.op_mir.specs.declared.code.Mir.{Mir}
 use Rattle.op_mir.specs.declared.code.Routine.{Routine}
 use Rattle.op_mir.specs.declared.ids.BlockId.{BlockId}
 use Rattle.op_mir.specs.declared.ids.TemporaryId.{TemporaryId}
@@ -147,6 +149,7 @@ module _ (g : Setting) (fit : IsFitting g) (m : MirState) (l : State) (floors : 
         callers = subst (λ x. CallersStand g floors m.world.memory m.world.bound m.callers l.callers m.routine x l.limit l.room m.charged) (sym first) s.callers;
         lie = λ x live. lies x live;
         fixed = λ x low fixed. let above = above_bottom in kept_memory x (omega arith) ∙ s.fixed x low fixed;
+        heap = heap_below g fit l.memory memory (λ x low. let above = above_bottom in kept_memory x (omega arith)) s.heap;
         due = count_below g fit (length m.pending) l.memory memory (λ x low. let above = above_bottom in kept_memory x (omega arith)) s.due;
         bytes = λ x low. subst (λ b. b < 2 ^ 8) (sym (kept_memory x low)) (s.bytes x low);
         output = ap (λ x. x ++ text) s.output;
@@ -224,40 +227,30 @@ module _ (g : Setting) (fit : IsFitting g) (m : MirState) (l : State) (floors : 
   abbrev bank : Bank
   bank = (here m floors).frame.bank
 
-  abbrev performs : (b : Bool) → Destination → Reached (Outcome b) → MirState
-  performs b to o = record m { world = performed g.core (view_destination to) o m.world; work = rest_above g m l floors i is next }
+  abbrev performs : (sort : Option Sort) → Destination → Reached (Outcome sort) → MirState
+  performs sort to o = record m { world = performed g.core (view_destination to) o m.world; work = rest_above g m l floors i is next }
 
-  pub outcome_comes : (f : ℕ → ℕ) (number : ℕ) (arguments : List VirtualRegister) (to : Destination) (b : Bool) (o : Reached (Outcome b)) → IsTaken b (view_destination to) → KeptBelow bank.scratch l.top.registers f → Goes g 0 16 l (calls f number arguments (destination_register (here m floors).frame to)) → (IsLight i → ⊥) → Does g.low g.placement (calls f number arguments (destination_register (here m floors).frame to)) (operands arguments (destination_register (here m floors).frame to)) rest b o → AreFine g.core g.mir (here m floors).number (here m floors).routine is → mir_step (managed g) m ≡ performs b to o → Comes g m l
-  outcome_comes f number arguments to b (failing error) taken kept_f goes light does fine step =
+  pub outcome_comes : (f : ℕ → ℕ) (number : ℕ) (arguments : List VirtualRegister) (to : Destination) (sort : Option Sort) (o : Reached (Outcome sort)) → sort ≡ None → IsTaken sort (view_destination to) → KeptBelow bank.scratch l.top.registers f → Goes g 0 16 l (calls f number arguments (destination_register (here m floors).frame to)) → (IsLight i → ⊥) → Does g.low g.placement (calls f number arguments (destination_register (here m floors).frame to)) (operands arguments (destination_register (here m floors).frame to)) rest sort o → AreFine g.core g.mir (here m floors).number (here m floors).routine is → mir_step (managed g) m ≡ performs sort to o → Comes g m l
+  outcome_comes f number arguments to sort (failing error) nothing taken kept_f goes light does fine step =
       failed_comes f number arguments (destination_register (here m floors).frame to) error goes light does step
-  outcome_comes f number arguments Unused true (reached o) taken kept_f goes light does fine step = absurd taken
-  outcome_comes f number arguments (InTemporary t) false (reached o) taken kept_f goes light does fine step = absurd taken
-  outcome_comes f number arguments Unused false (reached o) taken kept_f goes light does fine step =
+  outcome_comes f number arguments to (Some sort) (reached o) nothing taken kept_f goes light does fine step = absurd cc
+  outcome_comes f number arguments (InTemporary t) None (reached o) nothing taken kept_f goes light does fine step = absurd taken
+  outcome_comes f number arguments (InNew of n) None (reached o) nothing taken kept_f goes light does fine step = absurd taken
+  outcome_comes f number arguments (IntoPlace of to old) None (reached o) nothing taken kept_f goes light does fine step = absurd taken
+  outcome_comes f number arguments (OverPlace to) None (reached o) nothing taken kept_f goes light does fine step = absurd taken
+  outcome_comes f number arguments Unused None (reached o) nothing taken kept_f goes light does fine step =
       let a = next.stays.activation in
       let to = scratch_of bank 0 in
       let scratch = a.floor.fits.scratch in
       let kept_h : KeptBelow bank.scratch l.top.registers (λ r. if nat_eq r to.0 then does.value else f r) = λ r low. let t : nat_eq r to.0 ≡ false = grind (arith, nat_tests) in ap (λ b. if b then does.value else f r) t ∙ kept_f r low in
       called_comes f number arguments to o.bytes m.world.temps goes light does (λ r low. kept_h r (omega arith))
       (λ t low. subst (λ x. IsWordOf x (m.world.temps t)) (sym (kept_h (bank.temporaries + t) (omega arith))) (a.kept.temporaries t low)) fine step
-  outcome_comes f number arguments (InTemporary t) true (reached o) taken kept_f goes light does fine step =
-      let a = next.stays.activation in
-      let fits = a.floor.fits in
-      let scratch = fits.scratch in
-      let to = register_of bank t in
-      let h = λ (r : ℕ). if nat_eq r to.0 then does.value else f r in
-      let becomes : GivesNumber (work_of bank) to l.top.registers h o.value = record {
-        result = let e : nat_eq to.0 to.0 ≡ true = grind (arith, nat_tests) in subst (λ b. IsWordOf (if b then does.value else f to.0) o.value) (sym e) does.fits;
-        others = λ r low other. let e : nat_eq r to.0 ≡ false = grind (arith, nat_tests, other) in ap (λ b. if b then does.value else f r) e ∙ kept_f r (omega arith);
-      } in
-      let temps = λ (u : ℕ). if nat_eq u t.0 then o.value else m.world.temps u in
-      called_comes f number arguments to o.bytes temps goes light does
-      (variables_kept g (here m floors) fits t l.top.registers h becomes.others) (temporary_set g (here m floors) fits t o.value m.world.temps l.top.registers h becomes a.kept.temporaries) fine step
 
 -- ---- operands
 
-number_there : (x : Routine) (t : TemporaryId) → operand_fits x (Number t) ≡ true → t.0 < x.temporaries
+number_there : (mir : Mir) (x : Routine) (t : TemporaryId) → operand_fits mir x (Number t) ≡ true → t.0 < x.temporaries
 unfolding operand_fits
-number_there x t is = has_of x t is
+number_there mir x t is = has_of x t is
 
 module _ (g : Setting) (fit : IsFitting g) (m : MirState) (l : State) (floors : ℕ → Floor) (s : Stays g floors m l) where
   abbrev frame : Frame
@@ -268,9 +261,11 @@ module _ (g : Setting) (fit : IsFitting g) (m : MirState) (l : State) (floors : 
 
   -- the operands are in registers, as words that stand for their values
   pub record Passed (sorts : List Sort) (h : ℕ → ℕ) (used : ℕ) (os : List Operand) : Type 0 where
+    pub values : Values sorts
+    pub are : (held : ℕ → ℕ) → values_of held m.world sorts (map view_operand os) ≡ reached values
     pub words : Words sorts
-    pub stand : (k : State) → k.limit ≡ l.limit → k.memory ≡ l.memory → StandFor g.placement k sorts (values_of m.world sorts (map view_operand os)) words
-    pub passed : map (λ (r : VirtualRegister). h r.0) (operands_passed frame used os) ≡ listed sorts (values_of m.world sorts (map view_operand os)) words
+    pub stand : (k : State) → k.limit ≡ l.limit → k.memory ≡ l.memory → StandFor g.placement k sorts values words
+    pub passed : map (λ (r : VirtualRegister). h r.0) (operands_passed frame used os) ≡ listed sorts values words
 
   pub record Passes (f : ℕ → ℕ) (used : ℕ) (os : List Operand) (rest : List LowInstruction) : Type 0 where
     pub registers : ℕ → ℕ
@@ -282,16 +277,16 @@ module _ (g : Setting) (fit : IsFitting g) (m : MirState) (l : State) (floors : 
   unfolding act put run Rattle.op_low.specs.Machine.step Rattle.op_low.specs.Machine.step_by_ending Rattle.op_low.specs.Machine.done spent cost cost_by Rattle.op_simulation.specs.System.trace Rattle.op_low.specs.Machine.shows Rattle.op_low.specs.Machine.shown_by
   two_put f used id size now = record { steps = 2; enough = omega arith; within = omega arith; ends = refl; unread = refl }
 
-  operands_pass : (f : ℕ → ℕ) (used : ℕ) (os : List Operand) (rest : List LowInstruction) → list_all (operand_fits (here m floors).routine) os ≡ true → AreLiterals texts (operands_literals os) → EachOperand IsTypedOperand (map view_operand os) → KeptBelow frame.bank.scratch l.top.registers f → Passes f used os rest
+  operands_pass : (f : ℕ → ℕ) (used : ℕ) (os : List Operand) (rest : List LowInstruction) → list_all (operand_fits g.mir (here m floors).routine) os ≡ true → AreLiterals texts (operands_literals os) → EachOperand IsTypedOperand (map view_operand os) → KeptBelow frame.bank.scratch l.top.registers f → Passes f used os rest
   operands_pass f used [] rest has literals typed kept_f = record {
     registers = f;
     goes = goes_within g 0 0 (at l f rest) (at l f rest) (goes_none g (at l f rest)) (omega arith);
     kept = λ r low. refl;
-    passed = record { words = tt; stand = λ k limit memory. tt; passed = refl };
+    passed = record { values = tt; are = λ held. refl; words = tt; stand = λ k limit memory. tt; passed = refl };
   }
   operands_pass f used (Number t ∷ os) rest has literals typed kept_f =
-      let (first, others) = and_parts (operand_fits (here m floors).routine (Number t)) (list_all (operand_fits (here m floors).routine) os) has in
-      let low : t.0 < (here m floors).routine.temporaries = number_there (here m floors).routine t first in
+      let (first, others) = and_parts (operand_fits g.mir (here m floors).routine (Number t)) (list_all (operand_fits g.mir (here m floors).routine) os) has in
+      let low : t.0 < (here m floors).routine.temporaries = number_there g.mir (here m floors).routine t first in
       let scratch = s.activation.floor.fits.scratch in
       let rec = operands_pass f (used + 0) os rest others literals typed.1 kept_f in
       let same : rec.registers (register_of frame.bank t).0 ≡ l.top.registers (register_of frame.bank t).0 = rec.kept (register_of frame.bank t).0 (omega arith) ∙ kept_f (register_of frame.bank t).0 (omega arith) in
@@ -301,13 +296,16 @@ module _ (g : Setting) (fit : IsFitting g) (m : MirState) (l : State) (floors : 
         goes = goes_within g 0 (2 * length (Number t ∷ os)) (at l f (operands_code frame texts used (Number t ∷ os) ++ rest)) (at l rec.registers rest) rec.goes (omega arith);
         kept = λ r low. rec.kept r (omega arith);
         passed = record {
+          values = (number_at m.world t.0, rec.passed.values);
+          are = λ held. ap (λ vs. and_then vs (λ x. reached (number_at m.world t.0, x))) (rec.passed.are held);
           words = (rec.registers (register_of frame.bank t).0, rec.passed.words);
           stand = λ k limit memory. (word, rec.passed.stand k limit memory);
           passed = ap (λ ws. rec.registers (register_of frame.bank t).0 ∷ ws) rec.passed.passed;
         };
       }
+  operands_pass f used (Text path ∷ os) rest has literals typed kept_f = absurd typed.0
   operands_pass f used (Literal text ∷ os) rest has literals typed kept_f =
-      let (first, others) = and_parts (operand_fits (here m floors).routine (Literal text)) (list_all (operand_fits (here m floors).routine) os) has in
+      let (first, others) = and_parts (operand_fits g.mir (here m floors).routine (Literal text)) (list_all (operand_fits g.mir (here m floors).routine) os) has in
       let a = scratch_of frame.bank used in
       let b = scratch_of frame.bank (used + 1) in
       let id = number_of texts text in
@@ -323,6 +321,8 @@ module _ (g : Setting) (fit : IsFitting g) (m : MirState) (l : State) (floors : 
             (goes_then g 0 0 0 (at l f (operands_code frame texts used (Literal text ∷ os) ++ rest)) (at l h (operands_code frame texts (used + 2) os ++ rest)) (at l rec.registers rest) (omega arith) (two_put f used id (length text) (operands_code frame texts (used + 2) os ++ rest)) rec.goes) (omega arith);
         kept = λ r low. rec.kept r (omega arith) ∙ kept_h r low;
         passed = record {
+          values = (a_literal text, rec.passed.values);
+          are = λ held. ap (λ vs. and_then vs (λ x. reached (a_literal text, x))) (rec.passed.are held);
           words = (place, rec.passed.words);
           stand = λ k limit memory. ((text_there g fit m l floors s k limit memory id text (stands_at_number texts text literals.0), fit.placed.words (literal id), typed.0.0), rec.passed.stand k limit memory);
           passed = ap₂ (λ u v. u ∷ v ∷ map (λ (r : VirtualRegister). rec.registers r.0) (operands_passed frame (used + 2) os)) address_is size_is ∙ ap (λ ws. place ∷ length text ∷ ws) rec.passed.passed;
@@ -341,18 +341,21 @@ module _ (g : Setting) (fit : IsFitting g) (m : MirState) (l : State) (floors : 
       let texts = literals_of g.core g.mir in
       let routine = (here m floors).routine in
       let rest = rest_below g m l floors i is next in
+      let typed = next.fine.1 in
+      let serving = served p typed.nothing in
+      let coded : primitive_code frame texts p os to ≡ call_by frame texts (Some serving.routine) os to = ap (λ y. call_by frame texts y os to) serving.is in
+      let does : DoesBy (Some serving.routine) p = subst (λ y. DoesBy y p) serving.is (primitive_does p) in
       let arguments = operands_passed frame 0 os in
       let register = destination_register frame to in
       let code = operands_code frame texts 0 os in
-      let the_call = call (routine_of p) arguments register in
-      let (there, destined) = and_parts (list_all (operand_fits routine) os) (destination_fits routine to) next.fine.0 in
-      let typed = next.fine.1 in
+      let the_call = call serving.routine arguments register in
+      let (there, destined) = and_parts (list_all (operand_fits g.mir routine) os) (destination_fits g.mir routine to) next.fine.0 in
       let pass = operands_pass g fit m l floors s l.top.registers 0 os (the_call ∷ rest) there next.literals typed.each (λ r low. refl) in
       let passed : Passed g fit m l floors s (signature p) pass.registers 0 os = subst (λ sorts. Passed g fit m l floors s sorts pass.registers 0 os) typed.sorts pass.passed in
       let k = at l pass.registers (the_call ∷ rest) in
       let stand = passed.stand k refl refl in
-      let values = values_of m.world (signature p) (map view_operand os) in
-      let called : Called g.low g.placement k (routine_of p) (listed (signature p) values passed.words) (record { arguments = arguments; to = register; landing = None }) rest = record {
+      let values = passed.values in
+      let called : Called g.low g.placement k serving.routine (listed (signature p) values passed.words) (record { arguments = arguments; to = register; landing = None }) rest = record {
         runtime = fit.placed.runtime;
         running = refl;
         next = refl;
@@ -360,11 +363,12 @@ module _ (g : Setting) (fit : IsFitting g) (m : MirState) (l : State) (floors : 
         words = words_low g.placement k (signature p) values passed.words stand;
         room = room_there g fit m l floors s k refl refl;
       } in
-      let few = (served p).few in
+      let few = serving.few in
       let number : length os ≡ length (signature p) = sym (length-map os view_operand) ∙ sym (length-map (map view_operand os) sort_of) ∙ ap length typed.sorts in
-      let begins = begins_here g fit m l floors i is next (code ++ the_call ∷ []) refl ∙ ap (at l l.top.registers) (append_assoc code (the_call ∷ []) rest) in
-      outcome_comes g fit m l floors i is next pass.registers (routine_of p) arguments to (gives p) (meaning p values) typed.taken (λ r low. pass.kept r (omega arith))
+      let begins = begins_here g fit m l floors i is next (code ++ the_call ∷ []) coded ∙ ap (at l l.top.registers) (append_assoc code (the_call ∷ []) rest) in
+      let means = ap (λ vs. record m { world = performed g.core (view_destination to) (and_then vs (meaning p)) m.world; work = rest_above g m l floors i is next }) (passed.are ((code_rules (managed g)).number (record m { work = rest_above g m l floors i is next }))) in
+      outcome_comes g fit m l floors i is next pass.registers serving.routine arguments to (gives p) (meaning p values) typed.nothing typed.taken (λ r low. pass.kept r (omega arith))
       (goes_from g 0 l (at l l.top.registers (code ++ the_call ∷ rest)) k begins (goes_within g 0 16 (at l l.top.registers (code ++ the_call ∷ rest)) k pass.goes (omega arith)))
       (λ light. light)
-      (primitive_does p g.low g.placement k (record { arguments = arguments; to = register; landing = None }) rest values passed.words (texts_there g fit m l floors s k refl refl) stand called)
-      (behind_act next.on) (step_here g fit m l floors i is next)
+      (does g.low g.placement k (record { arguments = arguments; to = register; landing = None }) rest values passed.words (texts_there g fit m l floors s k refl refl) stand called)
+      (behind_act next.on) (step_here g fit m l floors i is next ∙ means)

@@ -91,6 +91,7 @@ module _ (g : Setting) (fit : IsFitting g) (m : MirState) (l : State) (floors : 
           callers = subst (λ x. CallersStand g floors m.world.memory m.world.bound cs lcs c.routine x below spare under) (sym first) callers;
           lie = λ h live. s.lie h (live_deeper g.core floors (length cs) (length m.callers) h (omega arith) live);
           fixed = s.fixed;
+          heap = s.heap;
           due = s.due;
           bytes = λ x low. s.bytes x (omega arith);
           output = s.output;

@@ -14,7 +14,7 @@ use Rattle.op_mir.specs.declared.code.Routine.{Routine}
 use Rattle.op_mir.specs.declared.instruction.Call.{Call as Operands}
 use Rattle.op_mir.specs.declared.instruction.Given.TheVariants.{ByValue, ByPlace, ByCopy}
 use Rattle.op_mir.specs.declared.instruction.Given.{Given}
-use Rattle.op_mir.specs.declared.instruction.Instruction.TheVariants.{Act, Call, Jump, When, Unless, Switch, Dispatch, MakeDue, Stop, Return}
+use Rattle.op_mir.specs.declared.instruction.Instruction.TheVariants.{Act, Call, Jump, When, Unless, Switch, Dispatch, MakeDue, OpenTemporaries, EndTemporary, Stop, Return}
 use Rattle.op_mir.specs.declared.instruction.Instruction.{Instruction}
 use Rattle.op_mir.specs.declared.instruction.Receiver.TheVariants.{Nowhere, Temporary as ToTemporary, Place}
 use Rattle.op_mir.specs.declared.instruction.Receiver.{Receiver}
@@ -90,6 +90,8 @@ module _ (root : Root) where
   instruction_stays roots (Switch t arms) h = h
   instruction_stays roots (Dispatch t block) h = h
   instruction_stays roots (MakeDue f) h = h
+  instruction_stays roots (OpenTemporaries ts) h = h
+  instruction_stays roots (EndTemporary t) h = h
   instruction_stays roots (Stop t) h = h
   instruction_stays roots Return h = h
 
@@ -179,6 +181,8 @@ module _ (core : Core) (r : ℕ) (x : Routine) (has : HasVariables core r x) whe
   instruction_home roots (Switch t arms) among = tt
   instruction_home roots (Dispatch t block) among = tt
   instruction_home roots (MakeDue f) among = tt
+  instruction_home roots (OpenTemporaries ts) among = tt
+  instruction_home roots (EndTemporary t) among = tt
   instruction_home roots (Stop t) among = tt
   instruction_home roots Return among = tt
 

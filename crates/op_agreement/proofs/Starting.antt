@@ -44,6 +44,7 @@ use Rattle.op_rv.specs.State.{with_bytes, word_at}
 use Rattle.op_rv.specs.Step.{can_access, offset_from}
 use Rattle.op_rv.specs.declared.instruction.LoadOp.TheVariants.{Lw}
 use Rattle.op_rv.specs.declared.symbol.Symbol.TheVariants.{Global}
+use Rattle.op_agreement.proofs.HeapKept.{heap_below}
 use Rattle.op_agreement.proofs.Closing.{main_returning}
 use Rattle.op_agreement.proofs.Counting.{count_below}
 use Rattle.op_agreement.proofs.Going.{Goes, goes_fewer, goes_from, goes_one, goes_then, goes_to}
@@ -269,6 +270,7 @@ module _ (g : Setting) (fit : IsFitting g) (loaded : IsLoaded g) (input : List �
               callers = (refl, ap (λ n. g.bottom + n) locals_are);
               lie = lies_first;
               fixed = λ x low fixed. low_kept x low;
+              heap = heap_below g fit g.loaded memory_first low_kept loaded.heap;
               due = subst (λ pending. IsCounted g (length pending) memory_first) (sym loaded.pending) (count_below g fit 0 g.loaded memory_first low_kept (λ some. let none : g.stack ≡ g.stack + 0 = omega arith in loaded.stack_told ∙ none));
               bytes = λ x low. byte x (cases_lt x g.bottom) low;
               output = refl;

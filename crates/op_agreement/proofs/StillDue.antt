@@ -16,7 +16,7 @@ use Rattle.op_meaning.specs.World.{number_at, Ended as HasEnded}
 use Rattle.op_mir.specs.Code.{Instr}
 use Rattle.op_mir.specs.Machine.{Code, MirCaller, MirState, arm_for, code_rules, dispatched, execute, go_if, go_to, mir_step, tables}
 use Rattle.op_mir.specs.View.{view_arm, view_given, view_instruction, view_receiver}
-use Rattle.op_mir.specs.declared.instruction.Instruction.TheVariants.{Act, Call, Jump, When, Unless, Switch, Dispatch, MakeDue, Stop, Return}
+use Rattle.op_mir.specs.declared.instruction.Instruction.TheVariants.{Act, Call, Jump, When, Unless, Switch, Dispatch, MakeDue, OpenTemporaries, EndTemporary, Stop, Return}
 use Rattle.op_mir.specs.declared.instruction.Instruction.{Instruction}
 use Rattle.op_agreement.proofs.Branching.{step_here}
 use Rattle.op_agreement.proofs.Computing.{rest_above}
@@ -146,6 +146,8 @@ module _ (g : Setting) (fit : IsFitting g) (m : MirState) (l : State) (floors : 
       let rest = rest_above g m l floors (MakeDue f) is next in
       let others = (drop_first (finalizations g.core) (dues_in rest) f (length m.pending) (sym (first_is g fit m l floors is f due next))).2 in
       subst (AreStillDue g) (sym (step_here g fit m l floors (MakeDue f) is next)) (λ open_. ap (λ cs. dues_in (lowest_rest rest cs)) alone ∙ sym others)
+  instruction_due (OpenTemporaries ts) is next = absurd next.fine
+  instruction_due (EndTemporary t) is next = absurd next.fine
   instruction_due (Stop t) is next =
       let n = behind (Stop t) is next in
       let status = low_eight (number_at m.world t.0) in

@@ -24,9 +24,9 @@ use Rattle.op_low.specs.State.{State}
 use Rattle.op_low.specs.declared.ids.VirtualRegister.{VirtualRegister}
 use Rattle.op_low.specs.declared.instruction.Instruction.TheVariants.{Const, Store as StoreWord}
 use Rattle.op_low.specs.declared.instruction.Instruction.{Instruction as LowInstruction}
-use Rattle.op_meaning.specs.Actions.{at_place, perform}
+use Rattle.op_meaning.specs.Actions.{perform}
 use Rattle.op_meaning.specs.Numbers.{low_bits_of}
-use Rattle.op_meaning.specs.Paths.{place_of as place_meant}
+use Rattle.op_meaning.specs.Paths.{at_place, place_of as place_meant}
 use Rattle.op_meaning.specs.Shapes.{variables_of}
 use Rattle.op_meaning.specs.Values.{Holder, Place, Value, all_of, local, number, number_in, same_holder, Reached as Met, reached as met, failing}
 use Rattle.op_meaning.specs.World.{number_at, with_value}
@@ -137,6 +137,7 @@ module _ (g : Setting) (floors : ℕ → Floor) (m : MirState) (l : State) (s : 
         callers = subst (λ x. CallersStand g floors set m.world.bound m.callers l.callers m.routine x l.limit l.room m.charged) (sym first) moved;
         lie = λ k live. subst (λ x. Lies (arrangement_of g.core (type_held g.core floors k)) x l.memory (address_of g floors k)) (sym (set_other k (λ e. not_live (subst (Live g.core floors level) e live)))) (s.lie k live);
         fixed = s.fixed;
+        heap = s.heap;
         due = s.due;
         bytes = s.bytes;
         output = s.output;
@@ -208,7 +209,7 @@ module _ (g : Setting) (fit : IsFitting g) (m : MirState) (l : State) (floors : 
         let rest = rest_below g m l floors i is next in
         let straight = goes_straight g l code rest l.top.registers in
         let answers = low_bits (work_of bank) o l.top.registers x apart (a.kept.temporaries from.0 low_from) kind in
-        let plain : IsPlainWorld (with_value (all_of (local m.world.depth v.0)) (number (low_bits_of kind x)) m.world) = plain_perform g.core fit.program.exceptions (view_action g.core (here m floors).number (Store (record { root = Local v; steps = [] }) kind from)) m.world s.plain in
+        let plain : IsPlainWorld (with_value (all_of (local m.world.depth v.0)) (number (low_bits_of kind x)) m.world) = plain_perform g.core fit.program.exceptions (λ n. 0) (view_action g.core (here m floors).number (Store (record { root = Local v; steps = [] }) kind from)) m.world tt s.plain in
         by (outcome code l.top.registers) straight answers (begins_here g fit m l floors i is next code is_code) some variable
         (subst (λ d. IsPlainWorld (with_value (all_of (local d v.0)) (number (low_bits_of kind x)) m.world)) s.depth plain)
         (step_here g fit m l floors i is next ∙ ap (λ d. record m { world = with_value (all_of (local d v.0)) (number (low_bits_of kind x)) m.world; work = rest_above g m l floors i is next }) s.depth)
@@ -285,7 +286,7 @@ module _ (g : Setting) (fit : IsFitting g) (m : MirState) (l : State) (floors : 
         store_by path landing next of shape typed (has_of (here m floors).routine from has_from) (place_meant m.world (view_path path)) refl begins
         (place_goes g fit m l floors s path of near (scratch_of frame.bank 0) l.top.registers (sw path ∷ rest) typed placed indices (omega arith) (λ r below. refl))
         (step_here g fit m l floors i is next)
-        (plain_perform g.core fit.program.exceptions (view_action g.core (here m floors).number (Store path kind from)) m.world s.plain)
+        (plain_perform g.core fit.program.exceptions (λ n. 0) (view_action g.core (here m floors).number (Store path kind from)) m.world tt s.plain)
 
     abbrev store_by_home : LocalId → Option VirtualRegister → List LowInstruction
     store_by_home v (Some r) = low_bits_code r kind (register_of frame.bank from)

@@ -25,11 +25,12 @@ use Rattle.op_mir.specs.Machine.{MirCaller, MirState}
 use Rattle.op_mir.specs.Plain.{IsPlainWorld}
 use Rattle.op_mir.specs.declared.instruction.Receiver.{Receiver as DeclaredReceiver}
 use Rattle.op_mir.specs.declared.path.Root.TheVariants.{Local, Temporary}
-use Rattle.op_agreement.proofs.Charting.{FloorsStand, due_apart, floors_stand, live_apart, live_stands, same_is}
+use Rattle.op_agreement.proofs.HeapKept.{heap_stays}
+use Rattle.op_agreement.proofs.Charting.{FloorsStand, due_apart, floors_stand, live_apart, live_stands, same_is, owned_apart}
 use Rattle.op_agreement.proofs.Counting.{count_kept}
 use Rattle.op_agreement.proofs.Standing.{here, kept_registers, SameVariables, Temporaries}
 use Rattle.op_agreement.specs.Chart.{AllLie, Floor, IsAt, Live, address_of, stored_offset, type_held}
-use Rattle.op_agreement.specs.Fitting.{IsFitting}
+use Rattle.op_agreement.specs.Fitting.{HasHeap, IsFitting}
 use Rattle.op_agreement.specs.Settings.{Apart, Setting, StoredAt, due_address}
 use Rattle.op_agreement.specs.Stands.{ActivationStands, AreKept, CallersStand, IsCounted, IsFixed, IsFloor, Position, ResultGoes, Stays}
 use Rattle.op_agreement.specs.Typed.{IsVariable}
@@ -276,6 +277,20 @@ module _ (g : Setting) (fit : IsFitting g) (floors : ℕ → Floor) (m : MirStat
         by (inr from) (inr behind) may = inr behind
         by (inr from) (inl to) may = let clash : true ≡ false = sym (may from to) ∙ fixed in absurd cc
 
+    -- the heap is as it was
+    heap_put : HasHeap g memory
+    heap_put =
+        heap_stays g fit l.memory memory (λ x owned.
+        let (at_, within) = within_holder q of a is some small in
+        let bottom = floors_here.lowest depth_here (omega arith) in
+        let last = floors_here.last in
+        let below = owned.below in
+        changed x (omega arith) (by x at_ within (owned_apart g fit floors depth_here l.limit floors_here limit_here x owned q.holder is.live))) s.heap
+      where
+        by : (x : ℕ) → a ≡ address_of g floors q.holder + is.distance → is.distance + size_in g.core of ≤ size_in g.core (type_held g.core floors q.holder) → (x < address_of g floors q.holder) ⊎ (address_of g floors q.holder + size_in g.core (type_held g.core floors q.holder) ≤ x) → (x < a) ⊎ (a + size_in g.core of ≤ x)
+        by x at_ within (inl before) = inl (omega arith)
+        by x at_ within (inr behind) = inr (omega arith)
+
     -- and so many finalization parts are counted
     due_put : IsCounted g (length m.pending) memory
     due_put closes =
@@ -318,6 +333,7 @@ module _ (g : Setting) (fit : IsFitting g) (floors : ℕ → Floor) (m : MirStat
           callers = subst (λ x. CallersStand g floors (with_value q v m.world).memory m.world.bound m.callers l.callers m.routine x l.limit l.room m.charged) (sym first) moved;
           lie = value_put there;
           fixed = fixed_put;
+          heap = heap_put;
           due = due_put;
           bytes = bytes;
           output = s.output;

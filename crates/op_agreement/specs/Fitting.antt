@@ -1,5 +1,5 @@
 -- What is asked of a program and of where it is placed.
-use Rattle.std.specs.Prelude.{◌≡◌, ◌≢◌, ◌<◌, ◌≤◌, ℕ, ◌+◌, ◌%◌, ◌^◌, true, false, List, length, Some, None, slice_get}
+use Rattle.std.specs.Prelude.{◌≡◌, ◌≢◌, ◌<◌, ◌≤◌, ◌⊎◌, ℕ, ◌+◌, ◌%◌, ◌^◌, true, false, List, length, Some, None, slice_get}
 use Rattle.op_constants.specs.Arranged.{IsSmall}
 use Rattle.op_constants.specs.Literals.{literals_of}
 use Rattle.op_constants.specs.Offsets.{alignment_in, size_in}
@@ -13,6 +13,9 @@ use Rattle.op_expand.specs.Closing.{closing_routine}
 use Rattle.op_meaning.specs.Calls.{emptied_type}
 use Rattle.op_places.specs.Frames.{frame_of, parameters_of}
 use Rattle.op_expand.specs.Routines.{most_charge}
+use Rattle.op_heap.specs.Heap.{heap_address}
+use Rattle.op_heap.specs.Instances.{TableLies}
+use Rattle.op_heap.specs.Memory.{HeapLies, control_address, control_bytes}
 use Rattle.op_low.specs.State.{routine_of, space}
 use Rattle.op_meaning.specs.Expressions.{result_of}
 use Rattle.op_meaning.specs.Shapes.{type_of_variable}
@@ -80,6 +83,22 @@ pub record DueStands (g : Setting) (at : ℕ) : Type 0 where
   pub below : at + 4 ≤ g.bottom
   pub apart : (v : ℕ) → IsGlobal g.core v → Apart (global_address g v) (global_size g v) at 4
 
+-- A byte of the heap's: it lies below the stack, apart from the global variables and from the word that counts. No step writes it but one of the heap.
+pub record IsOwned (g : Setting) (x : ℕ) : Type 0 where
+  pub below : x < g.bottom
+  pub globals : (v : ℕ) → IsGlobal g.core v → (x < global_address g v) ⊎ (global_address g v + global_size g v ≤ x)
+  pub due : (x < due_address g) ⊎ (due_address g + 4 ≤ x)
+
+-- the control region and the heap are
+pub record HeapIsPlaced (g : Setting) : Type 0 where
+  pub control : (x : ℕ) → control_address ≤ x → x < control_address + control_bytes → IsOwned g x
+  pub heap : (x : ℕ) → heap_address ≤ x → x < heap_address + g.heap.bytes → IsOwned g x
+
+-- memory has the heap, and its slots
+pub record HasHeap (g : Setting) (memory : ℕ → ℕ) : Type 0 where
+  pub lies : HeapLies g.kinds memory g.heap
+  pub table : TableLies memory g.heap
+
 -- the stack lies behind all else, by whole words, and may be read and written
 pub record IsPlacedProgram (g : Setting) : Type 0 where
   pub runtime : HasRuntime g.low g.placement
@@ -88,6 +107,7 @@ pub record IsPlacedProgram (g : Setting) : Type 0 where
   pub globals : (v : ℕ) → IsGlobal g.core v → GlobalStands g v (global_address g v) (global_size g v)
   pub apart : (v u : ℕ) → v ≢ u → IsGlobal g.core v → IsGlobal g.core u → Apart (global_address g v) (global_size g v) (global_address g u) (global_size g u)
   pub due : DueStands g (due_address g)
+  pub heap : HeapIsPlaced g
   pub whole : g.bottom % 4 ≡ 0
   pub top : g.top < 2 ^ 32
   pub readable : (x : ℕ) → g.bottom ≤ x → x < g.top → g.placement.rights.readable x ≡ true

@@ -15,7 +15,7 @@ use Rattle.op_mir.specs.declared.code.Routine.{Routine}
 use Rattle.op_mir.specs.declared.ids.LocalId.{LocalId}
 use Rattle.op_mir.specs.declared.instruction.Given.TheVariants.{ByValue, ByPlace, ByCopy}
 use Rattle.op_mir.specs.declared.instruction.Given.{Given}
-use Rattle.op_mir.specs.declared.instruction.Instruction.TheVariants.{Act, Call, Jump, When, Unless, Switch, Dispatch, MakeDue, Stop, Return}
+use Rattle.op_mir.specs.declared.instruction.Instruction.TheVariants.{Act, Call, Jump, When, Unless, Switch, Dispatch, MakeDue, OpenTemporaries, EndTemporary, Stop, Return}
 use Rattle.op_mir.specs.declared.instruction.Instruction.{Instruction}
 use Rattle.op_mir.specs.declared.instruction.Receiver.TheVariants.{Nowhere, Temporary as ToTemporary, Place}
 use Rattle.op_mir.specs.declared.instruction.Receiver.{Receiver}
@@ -75,6 +75,8 @@ NamesFit core r (Unless t block) = Unit {0}
 NamesFit core r (Switch t arms) = Unit {0}
 NamesFit core r (Dispatch t block) = Unit {0}
 NamesFit core r (MakeDue f) = Unit {0}
+NamesFit core r (OpenTemporaries ts) = Unit {0}
+NamesFit core r (EndTemporary t) = Unit {0}
 NamesFit core r (Stop t) = Unit {0}
 NamesFit core r Return = Unit {0}
 

@@ -1,5 +1,5 @@
 -- What is claimed of the run-time routine of a primitive: that it does what is meant, where its arguments stand for the operands' values.
-use Rattle.std.specs.Prelude.{◌≡◌, ◌≢◌, ◌<◌, ◌≤◌, ℕ, ◌+◌, ◌^◌, Bool, true, false, List, [], ◌∷◌, ◌++◌, codes, length}
+use Rattle.std.specs.Prelude.{◌≡◌, ◌≢◌, ◌<◌, ◌≤◌, ℕ, ◌+◌, ◌^◌, false, List, [], ◌∷◌, ◌++◌, codes, length, Option, Some, None}
 use Rattle.std.specs.List.{concat, list_any}
 use Rattle.op_compute.specs.Meaning.{IsWordOf}
 use Rattle.op_primitives.specs.Primitives.{routine_of}
@@ -28,13 +28,13 @@ Words (Textual ∷ sorts) = ℕ × Words sorts
 abbrev pub listed : (sorts : List Sort) → Values sorts → Words sorts → List ℕ
 listed [] values words = []
 listed (Numeric ∷ sorts) (n, values) (w, words) = w ∷ listed sorts values words
-listed (Textual ∷ sorts) (text, values) (place, words) = place ∷ length text ∷ listed sorts values words
+listed (Textual ∷ sorts) (text, values) (place, words) = place ∷ length text.bytes ∷ listed sorts values words
 
 -- they stand for the values
 abbrev pub StandFor : Placement → State → (sorts : List Sort) → Values sorts → Words sorts → Type 0
 StandFor p m [] values words = Unit {0}
 StandFor p m (Numeric ∷ sorts) (n, values) (w, words) = IsWordOf w n × StandFor p m sorts values words
-StandFor p m (Textual ∷ sorts) (text, values) (place, words) = (StandsAt p m place text × (place < 2 ^ 32) × (length text < 2 ^ 31)) × StandFor p m sorts values words
+StandFor p m (Textual ∷ sorts) (text, values) (place, words) = (StandsAt p m place text.bytes × (place < 2 ^ 32) × (length text.bytes < 2 ^ 31)) × StandFor p m sorts values words
 
 -- The call comes to the state behind it after so many steps at most, at that cost and never bad. It gives such a value, writes these bytes, in
 -- pieces, and below the limit memory is then this one.
@@ -62,17 +62,23 @@ pub record CallFails (low : Low) (p : Placement) (m : State) (error most : ℕ) 
   pub unread : list_any is_read events ≡ false
   pub path : Path (low_machine low p) (λ s. s.ending ≢ Bad) m to steps events most
 
--- the value of the call is the word of the number that is given
-abbrev pub IsGiven : (b : Bool) → Given b → ℕ → Type 0
-IsGiven true n value = IsWordOf value n
-IsGiven false none value = Unit {0}
+-- the value of the call is the word of the number that is given; no routine gives a text yet
+abbrev pub IsGiven : (sort : Option Sort) → Given sort → ℕ → Type 0
+IsGiven None none value = Unit {0}
+IsGiven (Some Numeric) n value = IsWordOf value n
+IsGiven (Some Textual) new value = ⊥
 
 -- what a call does that does what is meant
-abbrev pub Does : Low → Placement → State → Operands → List Instruction → (b : Bool) → Reached (Outcome b) → Type 0
-Does low p m operands rest b (reached o) = CallsTo low p m operands rest (IsGiven b o.value) o.bytes m.memory (512 + length o.bytes)
-Does low p m operands rest b (failing error) = CallFails low p m error 512
+abbrev pub Does : Low → Placement → State → Operands → List Instruction → (sort : Option Sort) → Reached (Outcome sort) → Type 0
+Does low p m operands rest sort (reached o) = CallsTo low p m operands rest (IsGiven sort o.value) o.bytes m.memory (512 + length o.bytes)
+Does low p m operands rest sort (failing error) = CallFails low p m error 512
+
+-- of a primitive that has a routine
+abbrev pub DoesBy : (routine : Option ℕ) → Primitive → Type 0
+DoesBy None q = Unit {0}
+DoesBy (Some routine) q =
+    (low : Low) (p : Placement) (m : State) (operands : Operands) (rest : List Instruction) (values : Values (signature q)) (words : Words (signature q)) → HasTexts p m
+    → StandFor p m (signature q) values words → Called low p m routine (listed (signature q) values words) operands rest → Does low p m operands rest (gives q) (meaning q values)
 
 abbrev pub PrimitiveDoes : Primitive → Type 0
-PrimitiveDoes q =
-    (low : Low) (p : Placement) (m : State) (operands : Operands) (rest : List Instruction) (values : Values (signature q)) (words : Words (signature q)) → HasTexts p m
-    → StandFor p m (signature q) values words → Called low p m (routine_of q) (listed (signature q) values words) operands rest → Does low p m operands rest (gives q) (meaning q values)
+PrimitiveDoes q = DoesBy (routine_of q) q

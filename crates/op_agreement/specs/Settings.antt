@@ -17,6 +17,7 @@ use Rattle.op_expand.specs.Routines.{error_code, low_parameters}
 use Rattle.op_places.specs.declared.frame.Frame.{Frame}
 use Rattle.op_places.specs.declared.homes.Home.{Home}
 use Rattle.op_places.specs.declared.homes.Home.TheVariants.{Held, Stored, Shared}
+use Rattle.op_heap.specs.Heap.{Heap}
 use Rattle.op_low.specs.State.{Placement, block_of, routine_of}
 use Rattle.op_low.specs.declared.code.Low.{Low}
 use Rattle.op_meaning.specs.Shapes.{composite, no_type, shape_of, type_of_local, variables_of}
@@ -30,7 +31,7 @@ use Rattle.op_mir.specs.declared.code.Routine.{Routine}
 use Rattle.op_mir.specs.declared.ids.LocalId.{LocalId}
 use Rattle.op_mir.specs.declared.instruction.Given.TheVariants.{ByValue, ByPlace, ByCopy}
 use Rattle.op_mir.specs.declared.instruction.Given.{Given}
-use Rattle.op_mir.specs.declared.instruction.Instruction.TheVariants.{Act, Call, Jump, When, Unless, Switch, Dispatch, MakeDue, Stop, Return}
+use Rattle.op_mir.specs.declared.instruction.Instruction.TheVariants.{Act, Call, Jump, When, Unless, Switch, Dispatch, MakeDue, OpenTemporaries, EndTemporary, Stop, Return}
 use Rattle.op_mir.specs.declared.instruction.Instruction.{Instruction}
 use Rattle.op_mir.specs.declared.instruction.Receiver.TheVariants.{Nowhere, Temporary as ToTemporary, Place}
 use Rattle.op_mir.specs.declared.instruction.Receiver.{Receiver}
@@ -41,7 +42,7 @@ use Rattle.op_agreement.specs.Coding.{front_of}
 use Rattle.op_expand.specs.Routines.{code_of}
 use Rattle.op_agreement.specs.Typed.{IsVariable}
 
--- the program, its stack from `bottom` to `top`, and the memory that loading makes
+-- the program, its stack from `bottom` to `top`, the memory in which it begins, and its heap with the kinds of what is under names
 pub record Setting : Type 0 where
   pub core : Core
   pub mir : Mir
@@ -51,6 +52,8 @@ pub record Setting : Type 0 where
   pub bottom : ℕ
   pub top : ℕ
   pub loaded : ℕ → ℕ
+  pub heap : Heap
+  pub kinds : ℕ → ℕ
 
 -- managed code as its machine sees it
 abbrev pub managed : Setting → Code
@@ -153,6 +156,8 @@ HasHomes core r frame (Unless t block) = Unit {0}
 HasHomes core r frame (Switch t arms) = Unit {0}
 HasHomes core r frame (Dispatch t block) = Unit {0}
 HasHomes core r frame (MakeDue f) = Unit {0}
+HasHomes core r frame (OpenTemporaries ts) = Unit {0}
+HasHomes core r frame (EndTemporary t) = Unit {0}
 HasHomes core r frame (Stop t) = Unit {0}
 HasHomes core r frame Return = Unit {0}
 

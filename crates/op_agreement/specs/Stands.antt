@@ -29,7 +29,7 @@ use Rattle.op_mir.specs.declared.instruction.Receiver.{Receiver as DeclaredRecei
 use Rattle.op_rt_text.specs.Names.{block_id, register}
 use Rattle.op_rv.specs.State.{word_at}
 use Rattle.op_agreement.specs.Chart.{Floor, AllLie, IsAt}
-use Rattle.op_agreement.specs.Fitting.{closing_space}
+use Rattle.op_agreement.specs.Fitting.{HasHeap, closing_space}
 use Rattle.op_expand.specs.Routines.{code_of}
 use Rattle.op_agreement.specs.Settings.{Setting, managed, FrameFits, HaveHomes, AreLiterals, IsExpanded, due_address}
 use Rattle.op_agreement.specs.Typed.{IsVariable, AreFine, IsTypedReceiver}
@@ -161,6 +161,7 @@ pub record Stays (g : Setting) (floors : ℕ → Floor) (m : MirState) (l : Stat
   pub callers : CallersStand g floors m.world.memory m.world.bound m.callers l.callers m.routine (l.top.registers result_address.0) l.limit l.room m.charged
   pub lie : AllLie g floors (length m.callers) m.world.memory l.memory
   pub fixed : IsFixed g l.memory
+  pub heap : HasHeap g l.memory
   pub bytes : (x : ℕ) → x < l.limit → l.memory x < 2 ^ 8
   pub output : l.output ≡ m.world.output
   pub errors : l.errors ≡ m.world.errors

@@ -14,7 +14,7 @@ use Rattle.op_mir.specs.Code.{blocks_in}
 use Rattle.op_mir.specs.Machine.{mir_start}
 use Rattle.op_rv.specs.State.{word_at}
 use Rattle.op_rv.specs.declared.symbol.Symbol.TheVariants.{Global}
-use Rattle.op_agreement.specs.Fitting.{global_address, global_size}
+use Rattle.op_agreement.specs.Fitting.{HasHeap, global_address, global_size}
 use Rattle.op_agreement.specs.Settings.{Setting, managed}
 use Rattle.op_agreement.specs.Stands.{StandsFor}
 use Rattle.op_agreement.specs.Steps.{Goes}
@@ -34,6 +34,7 @@ pub record IsLoaded (g : Setting) : Type 0 where
   pub zeros : (v : ℕ) → IsGlobal g.core v → (program_in g).first v ≡ None → (x : ℕ) → x < global_size g v → g.loaded (global_address g v + x) ≡ 0
   pub values : (v : ℕ) (value : FirstValue) → IsGlobal g.core v → (program_in g).first v ≡ Some value → FirstFits g.core (type_of_variable g.core v) value × ((x : ℕ) → x < global_size g v → g.loaded (global_address g v + x) ≡ get_or (first_bytes g.core (type_of_variable g.core v) value) x 0)
   pub bytes : (x : ℕ) → x < g.bottom → g.loaded x < 2 ^ 8
+  pub heap : HasHeap g g.loaded
   pub stack_whole : stack_address g % 4 ≡ 0
   pub stack_readable : (x : ℕ) → stack_address g ≤ x → x < stack_address g + 4 → g.placement.rights.readable x ≡ true
   pub stack_below : stack_address g + 4 ≤ g.bottom

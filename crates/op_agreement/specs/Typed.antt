@@ -20,7 +20,7 @@ use Rattle.op_meaning.specs.Expressions.{result_of}
 use Rattle.op_meaning.specs.Items.{Given, by_value, by_place, by_copy, Receiver, nowhere, to_temp, to_place}
 use Rattle.op_meaning.specs.Numbers.{fits_word}
 use Rattle.op_meaning.specs.Paths.{Root, in_global, in_local, through, in_temporary, Path, Step, field, element}
-use Rattle.op_meaning.specs.Primitives.{IsApplied, Operand, from_temp, literal_text}
+use Rattle.op_meaning.specs.Primitives.{IsApplied, Operand, from_temp, literal_text, text_at}
 use Rattle.op_meaning.specs.Shapes.{single, composite, part_type, shape_of, result_of_routine, variables_of, type_of_local, type_of_variable, refers, is_reference}
 use Rattle.op_mir.specs.Valid.{has, action_fits, all_given_fit, receiver_fits}
 use Rattle.op_mir.specs.View.{view_action, view_given, view_receiver}
@@ -29,7 +29,7 @@ use Rattle.op_mir.specs.declared.code.Routine.{Routine}
 use Rattle.op_mir.specs.declared.ids.BlockId.{BlockId}
 use Rattle.op_mir.specs.declared.instruction.Arm.{Arm}
 use Rattle.op_mir.specs.declared.instruction.Instruction.{Instruction}
-use Rattle.op_mir.specs.declared.instruction.Instruction.TheVariants.{Act, Call, Jump, When, Unless, Switch, Dispatch, MakeDue, Stop, Return}
+use Rattle.op_mir.specs.declared.instruction.Instruction.TheVariants.{Act, Call, Jump, When, Unless, Switch, Dispatch, MakeDue, OpenTemporaries, EndTemporary, Stop, Return}
 use Rattle.op_mir.specs.declared.instruction.Receiver.TheVariants.{Nowhere}
 use Rattle.std.specs.Prelude.{map}
 
@@ -77,7 +77,8 @@ AreBytes bytes = (k : ℕ) → slice_index bytes k < 2 ^ 8
 
 abbrev pub IsTypedOperand : Operand → Type 0
 IsTypedOperand (from_temp t) = Unit {0}
-IsTypedOperand (literal_text text) = (length text < 2 ^ 31) × AreBytes text
+IsTypedOperand (text_at path) = ⊥
+IsTypedOperand (literal_text bytes) = (length bytes < 2 ^ 31) × AreBytes bytes
 
 abbrev pub IsTypedAction : Core → ℕ → Action → Type 0
 IsTypedAction core r (constant to n) = FitsSigned w32 n
@@ -150,6 +151,7 @@ AreTargets x [] = Unit {0}
 AreTargets x (a ∷ arms) = IsTarget x a.block × AreTargets x arms
 
 -- An instruction of a routine names what is there, at its types. Only in the program itself a finalization part becomes due.
+-- Temporaries that end have no low code yet.
 abbrev pub IsFine : Core → Mir → ℕ → Routine → Instruction → Type 0
 IsFine core mir r x (Act a landing) = (action_fits mir x a ≡ true) × IsTypedAction core r (view_action core r a)
 IsFine core mir r x (Call id call) =
@@ -161,6 +163,8 @@ IsFine core mir r x (Unless t block) = (has x t ≡ true) × IsTarget x block
 IsFine core mir r x (Switch t arms) = (has x t ≡ true) × HasWordArms arms × AreTargets x arms
 IsFine core mir r x (Dispatch t block) = (has x t ≡ true) × (block.0 + 3 < length x.blocks)
 IsFine core mir r x (MakeDue f) = (r ≡ length mir.routines) × (has_closing core ≡ true)
+IsFine core mir r x (OpenTemporaries ts) = ⊥
+IsFine core mir r x (EndTemporary t) = ⊥
 IsFine core mir r x (Stop t) = has x t ≡ true
 IsFine core mir r x Return = Unit {0}
 
@@ -174,6 +178,8 @@ Leaves (Unless t block) = ⊥
 Leaves (Switch t arms) = ⊥
 Leaves (Dispatch t block) = ⊥
 Leaves (MakeDue f) = ⊥
+Leaves (OpenTemporaries ts) = ⊥
+Leaves (EndTemporary t) = ⊥
 Leaves (Stop t) = ⊥
 Leaves Return = Unit {0}
 
@@ -194,6 +200,8 @@ IsLight (Unless t block) = ⊥
 IsLight (Switch t arms) = ⊥
 IsLight (Dispatch t block) = ⊥
 IsLight (MakeDue f) = Unit {0}
+IsLight (OpenTemporaries ts) = ⊥
+IsLight (EndTemporary t) = ⊥
 IsLight (Stop t) = ⊥
 IsLight Return = Unit {0}
 
@@ -207,6 +215,8 @@ IsCharged x (Unless t block) = Unit {0}
 IsCharged x (Switch t arms) = labels_in arms ≤ x.charge
 IsCharged x (Dispatch t block) = Unit {0}
 IsCharged x (MakeDue f) = Unit {0}
+IsCharged x (OpenTemporaries ts) = Unit {0}
+IsCharged x (EndTemporary t) = Unit {0}
 IsCharged x (Stop t) = Unit {0}
 IsCharged x Return = Unit {0}
 

@@ -19,10 +19,10 @@ use Rattle.op_meaning.specs.World.{World, number_at}
 use Rattle.op_mir.specs.View.{view_computation}
 use Rattle.op_mir.specs.declared.action.Computation.{Computation}
 
--- what is meant by a computation is what the source machine does
+-- what is meant by a computation is what the source machine does, by however many places names are held
 abbrev pub ComputationsMean : Type 0
 ComputationsMean =
-    (core : Core) (c : Computation) (w : World) → perform core (view_computation c) w ≡ settled core (to_of c).0 (meant c (number_at w (left_of c).0) (number_at w (right_of c).0)) w
+    (core : Core) (held : ℕ → ℕ) (c : Computation) (w : World) → perform core held (view_computation c) w ≡ settled core (to_of c).0 (meant c (number_at w (left_of c).0) (number_at w (right_of c).0)) w
 
 -- the low code of a computation comes to that, from any registers that have the words of its operands
 abbrev pub ComputationsAnswer : Type 0

@@ -10,7 +10,7 @@ use Rattle.op_mir.specs.View.{first_at}
 use Rattle.op_mir.specs.declared.action.Action.{Action}
 use Rattle.op_mir.specs.declared.action.Action.TheVariants.{BeginWith, Pick, Do}
 use Rattle.op_mir.specs.declared.action.Operand.{Operand}
-use Rattle.op_mir.specs.declared.action.Operand.TheVariants.{Number, Literal}
+use Rattle.op_mir.specs.declared.action.Operand.TheVariants.{Number, Text, Literal}
 use Rattle.op_mir.specs.declared.code.Block.{Block}
 use Rattle.op_mir.specs.declared.code.Mir.{Mir}
 use Rattle.op_mir.specs.declared.code.Routine.{Routine}
@@ -35,6 +35,7 @@ first_literals _ bytes = []
 
 abbrev pub operand_literals : Operand → List (List ℕ)
 operand_literals (Number t) = []
+operand_literals (Text path) = []
 operand_literals (Literal text) = text ∷ []
 
 abbrev pub operands_literals : List Operand → List (List ℕ)

@@ -1,5 +1,5 @@
 -- Instructions of typed code are those that the agreement asks for: their operands are there, at the types that they are used at.
-use Rattle.std.proofs.Common.{◌≡◌, ◌≤◌, ◌<◌, ℕ, zero, suc, List, [], ◌∷◌, length, refl, sym, ap, subst, arith}
+use Rattle.std.proofs.Common.{◌≡◌, ◌≤◌, ◌<◌, ℕ, zero, suc, List, [], ◌∷◌, length, Option, Some, None, refl, sym, ap, subst, arith}
 use Rattle.std.specs.Prelude.{true, false, ◌&&◌, map, max, nat_lt, slice_get}
 use Rattle.std.proofs.lemmas.Bool.{and_from, lt-ltb}
 use Rattle.std.specs.List.{All, list_all}
@@ -16,17 +16,18 @@ use Rattle.op_lower.specs.Temporaries.{in_action, in_computation, in_destination
 use Rattle.op_meaning.specs.Actions.{Action as MeantAction, constant, load, store, copy, look, begin_with, pick, arithmetic, compare, negate, complement, invert, absolute, odd, upper, low_bits, check, neighbour, single, span, combine, contains, check_set, primitive}
 use Rattle.op_core.specs.Sizes.{type_at}
 use Rattle.op_meaning.specs.Shapes.{part_type, variables_of}
-use Rattle.op_meaning.specs.Primitives.{EachOperand, Operand as MeantOperand, from_temp, literal_text}
+use Rattle.op_meaning.specs.Primitives.{EachOperand, IsTaken, Operand as MeantOperand, from_temp, gives, literal_text, text_at}
+use Rattle.op_meaning.specs.declared.primitive.Sort.{Sort}
 use Rattle.op_mir.specs.Valid.{action_fits, computation_fits, copy_fits, destination_fits, has, has_three, has_two, load_fits, operand_fits, path_fits, root_fits, step_fits}
-use Rattle.op_mir.specs.View.{view_action, view_path, view_root, view_step}
+use Rattle.op_mir.specs.View.{view_action, view_destination, view_operand, view_path, view_root, view_step}
 use Rattle.op_mir.specs.declared.action.Action.{Action}
 use Rattle.op_mir.specs.declared.action.Action.TheVariants.{Constant, Load, Store, Copy, Look, BeginWith, Pick, Compute, Do}
 use Rattle.op_mir.specs.declared.action.Computation.{Computation}
 use Rattle.op_mir.specs.declared.action.Computation.TheVariants.{Arithmetic, Compare, Negate, Complement, Invert, Absolute, Odd, Upper, LowBits, Check, Neighbour, Single, Span, Combine, Contains, CheckSet}
 use Rattle.op_mir.specs.declared.action.Destination.{Destination}
-use Rattle.op_mir.specs.declared.action.Destination.TheVariants.{Unused, InTemporary}
+use Rattle.op_mir.specs.declared.action.Destination.TheVariants.{Unused, InTemporary, InNew, IntoPlace, OverPlace}
 use Rattle.op_mir.specs.declared.action.Operand.{Operand}
-use Rattle.op_mir.specs.declared.action.Operand.TheVariants.{Number, Literal}
+use Rattle.op_mir.specs.declared.action.Operand.TheVariants.{Number, Text, Literal}
 use Rattle.op_mir.specs.declared.code.Mir.{Mir}
 use Rattle.op_mir.specs.declared.code.Routine.{Routine}
 use Rattle.op_mir.specs.declared.ids.TemporaryId.{TemporaryId}
@@ -50,6 +51,7 @@ all_bytes (b ∷ text) all (suc k) = all_bytes text (All-tail (λ b. b < 256) b 
 operands_are : (os : List MeantOperand) → EachOperand TypedOperand os → EachOperand IsTypedOperand os
 operands_are [] each = tt
 operands_are (from_temp t ∷ os) each = (tt, operands_are os each.1)
+operands_are (text_at path ∷ os) each = absurd each.0
 operands_are (literal_text text ∷ os) each = ((each.0.0, all_bytes text each.0.1), operands_are os each.1)
 
 module _ (core : Core) (sound : IsSound core) (r : ℕ) where
@@ -64,7 +66,7 @@ module _ (core : Core) (sound : IsSound core) (r : ℕ) where
   action_is (pick to text index) (short, bytes) = (short, all_bytes text bytes)
   action_is (check low high to a) t = t
   action_is (neighbour distance low high to a) t = t
-  action_is (primitive p operands to) t = record { sorts = t.sorts; each = operands_are operands t.each; taken = t.taken }
+  action_is (primitive p operands to) t = record { sorts = t.sorts; each = operands_are operands t.each; taken = t.taken; nothing = t.nothing }
   action_is (arithmetic o checked to a b) t = tt
   action_is (compare o to a b) t = tt
   action_is (negate checked to a) t = tt
@@ -143,16 +145,22 @@ module _ (core : Core) (sound : IsSound core) (mir : Mir) (r : ℕ) (x : Routine
   computation_there (Contains to a b) low = three_there to a b low
   computation_there (CheckSet all to a) low = two_there to a low
 
-  operands_there : (os : List Operand) → Every (λ o. in_operand o ≤ x.temporaries) os → list_all (operand_fits x) os ≡ true
+  operands_there : (os : List Operand) → EachOperand TypedOperand (map view_operand os) → Every (λ o. in_operand o ≤ x.temporaries) os → list_all (operand_fits mir x) os ≡ true
   unfolding operand_fits in_operand
-  operands_there [] low = refl
-  operands_there (Number t ∷ os) low = and_from (has x t) (list_all (operand_fits x) os) (has_it t low.0) (operands_there os low.1)
-  operands_there (Literal text ∷ os) low = operands_there os low.1
+  operands_there [] typed low = refl
+  operands_there (Number t ∷ os) typed low = and_from (has x t) (list_all (operand_fits mir x) os) (has_it t low.0) (operands_there os typed.1 low.1)
+  operands_there (Text path ∷ os) typed low = absurd typed.0
+  operands_there (Literal text ∷ os) typed low = operands_there os typed.1 low.1
 
-  destination_there : (to : Destination) → in_destination to ≤ x.temporaries → destination_fits x to ≡ true
+  -- nothing goes to a place
+  destination_there : (gives : Option Sort) (to : Destination) → gives ≡ None → IsTaken gives (view_destination to) → in_destination to ≤ x.temporaries → destination_fits mir x to ≡ true
   unfolding destination_fits in_destination
-  destination_there Unused low = refl
-  destination_there (InTemporary t) low = has_it t low
+  destination_there (Some sort) to nothing taken low = absurd cc
+  destination_there None Unused nothing taken low = refl
+  destination_there None (InTemporary t) nothing taken low = absurd taken
+  destination_there None (InNew of n) nothing taken low = absurd taken
+  destination_there None (IntoPlace of to old) nothing taken low = absurd taken
+  destination_there None (OverPlace to) nothing taken low = absurd taken
 
   move_there : (t : TemporaryId) (path : Path) (of : TypeId) → TypedPath core r (view_path path) of → max (up_to t) (in_path path) ≤ x.temporaries → load_fits mir x t path ≡ true
   unfolding load_fits
@@ -170,4 +178,4 @@ module _ (core : Core) (sound : IsSound core) (mir : Mir) (r : ℕ) (x : Routine
   action_there (BeginWith v) (variable, small, solid, fits) low = lt-ltb v.0 x.locals (let few = variable.0 in omega arith)
   action_there (Pick to text index) t low = two_there to index low
   action_there (Compute c) t low = computation_there c low
-  action_there (Do p os to) t low = and_from (list_all (operand_fits x) os) (destination_fits x to) (operands_there os (most_each in_operand os x.temporaries (omega (arith, low)))) (destination_there to (omega (arith, low)))
+  action_there (Do p os to) t low = and_from (list_all (operand_fits mir x) os) (destination_fits mir x to) (operands_there os t.each (most_each in_operand os x.temporaries (omega (arith, low)))) (destination_there (gives p) to t.nothing t.taken (omega (arith, low)))

@@ -4,18 +4,24 @@ use Rattle.std.specs.List.{list_any}
 use Rattle.std.specs.Prelude.{IsTrue}
 use Rattle.std.proofs.lemmas.Bool.{cases_lt}
 use Rattle.op_core.specs.declared.program.Core.{Core}
-use Rattle.op_image.specs.Means.{AreBytes, Runs, image_run, low_start}
+use Rattle.op_heap.specs.Heap.{Heap}
+use Rattle.op_image.specs.Means.{AreBytes, HeapStands, LeavesHeap, Runs, image_run, low_start, start_steps}
+use Rattle.op_link.specs.Memory.{heap_size}
+use Rattle.op_link.specs.declared.memory_map.Settings.{Settings}
 use Rattle.op_low.specs.Machine.{NeverBad, low_machine, cost}
 use Rattle.op_low.specs.State.{State as LowState, Ending as LowEnding, Running as LowRunning, Ended as LowEnded, Bad, space}
 use Rattle.op_low.specs.declared.code.Low.{Low}
 use Rattle.op_managed.specs.Managed.{Manages, goes_along}
 use Rattle.op_meaning.specs.Frames.{State as SourceState, program_of}
-use Rattle.op_meaning.specs.Source.{LooksAtInput, is_of_input}
+use Rattle.op_meaning.specs.Source.{LooksAtInput, is_of_input, source}
 use Rattle.op_meaning.specs.Start.{start}
 use Rattle.op_meaning.specs.World.{Ending, Running, Ended, World}
+use Rattle.op_mir.specs.Code.{blocks_in}
 use Rattle.op_mir.specs.Machine.{MirState, mir_machine, mir_start, mir_cost}
 use Rattle.op_mir.specs.Plain.{IsPlain}
+use Rattle.op_mir.specs.View.{view_of}
 use Rattle.op_mir.specs.declared.code.Mir.{Mir}
+use Rattle.op_typing.specs.Typed.{AreTypedBlocks}
 use Rattle.op_optimize.specs.Shortening.{Passed, Shortens}
 use Rattle.op_rv.specs.State.{State as ImageState, Running as GoesOn, Ended as HasEnded}
 use Rattle.op_rv.specs.Step.{CallsRead}
@@ -27,7 +33,7 @@ use Rattle.op_simulation.proofs.Composition.{joins_equal}
 use Rattle.op_simulation.proofs.Runs.{run_add, run_last, run_past_end, spent_add}
 use Rattle.op_simulation.specs.Matching.{Agreement, Follows}
 use Rattle.op_simulation.specs.System.{System, run, Halted, spent, trace}
-use Rattle.op_agreement.proofs.Following.{EndsAs, agrees, fine_before, never_bad, same_states, trace_counted}
+use Rattle.op_agreement.proofs.Following.{EndsAs, agrees, same_states, trace_counted}
 use Rattle.op_agreement.proofs.Going.{run_counted}
 use Rattle.op_agreement.proofs.Starting.{starts}
 use Rattle.op_agreement.specs.Claims.{lowered}
@@ -39,11 +45,16 @@ use Rattle.op_agreement.proofs.Streams.{joins_bytes}
 use Rattle.op_agreement.specs.Steps.{cost_going, counted, is_read, most_for_one}
 use Rattle.op_link.specs.Image.{start as image_begin}
 use Rattle.op_meaning.specs.Costs.{cost as cost_above}
+use Rattle.op_correctness.proofs.Good.{low_is_good, run_none}
+use Rattle.op_correctness.proofs.HeapHeld.{held_still}
+use Rattle.op_correctness.proofs.Nameless.{IsNameless, nameless_run}
+use Rattle.op_correctness.proofs.Serving.{heaped_is, serves}
 use Rattle.op_correctness.proofs.Settling.{counted_steps, counts_less, counts_nothing, going, one_or_none, settles, settling, stays, while_running}
 use Rattle.op_correctness.proofs.Showing.{among, call_is_shown}
 use Rattle.op_correctness.proofs.Shortened.{Less, better_is_good, costs_less, improved, points_rise}
 use Rattle.op_correctness.proofs.Spending.{Between, EachCosts, between, same_run}
-use Rattle.op_correctness.specs.Agrees.{EndsAlike, GoesAlong, LooksAlike, source_run, most_for_work}
+use Rattle.op_correctness.specs.Agrees.{EndsAlike, EndsShort, GoesAlong, LooksAlike, source_run, most_for_work, most_steps_at}
+use Rattle.op_correctness.specs.Heaped.{Held, IsServed, IsShort, heap_after}
 use Rattle.op_correctness.specs.Placed.{setting_by}
 
 -- ---- two states, by way of those between
@@ -84,17 +95,13 @@ rises_on f rises n (suc k) =
     let next = rises (n + k) in
     omega arith
 
-run_none : {Event : Type 0} (A : System Event) (a : A.State) → run A 0 a ≡ a
-unfolding run
-run_none A a = refl
-
 -- ---- the whole run
 
-module _ (core : Core) (mir : Mir) (stack : ℕ) (low : Low) (w : Placed) (image : List ℕ) where
+module _ (core : Core) (mir : Mir) (stack : ℕ) (low : Low) (w : Placed) (memory : ℕ → ℕ) (image : List ℕ) where
   abbrev g : Setting
-  g = setting_by core mir stack low w image
+  g = setting_by core mir stack low w memory
 
-  module _ (does : (input : List ℕ) → AreBytes input → NeverBad w.low (placement_of w) (low_start w image input) → Runs w image input) (shorter : (input : List ℕ) → NeverBad low (placement_of w) (low_begins (setting_by core mir stack low w image) input) → Shortens low w.low (placement_of w) (low_begins (setting_by core mir stack low w image) input) (low_start w image input)) (fit : IsFitting (setting_by core mir stack low w image)) (loaded : IsLoaded (setting_by core mir stack low w image)) (follows : Follows (lowered (setting_by core mir stack low w image))) (manages : Manages core mir) (plain : IsPlain (program_of core stack)) (own : space w.low (placement_of w) w.low.entry.0 ≤ 1024) (input : List ℕ) (bytes : AreBytes input) where
+  module _ (does : (input : List ℕ) → AreBytes input → NeverBad w.low (placement_of w) (low_start w memory input) → Runs w memory image input) (shorter : (input : List ℕ) → NeverBad low (placement_of w) (low_begins (setting_by core mir stack low w memory) input) → Shortens low w.low (placement_of w) (low_begins (setting_by core mir stack low w memory) input) (low_start w memory input)) (fit : IsFitting (setting_by core mir stack low w memory)) (loaded : IsLoaded (setting_by core mir stack low w memory)) (follows : Follows (lowered (setting_by core mir stack low w memory))) (manages : Manages core mir) (plain : IsPlain (program_of core stack)) (typed : (r : ℕ) → AreTypedBlocks core r (blocks_in (program_of core stack) r)) (coded : (r : ℕ) → (view_of core stack mir).blocks r ≡ blocks_in (program_of core stack) r) (own : space w.low (placement_of w) w.low.entry.0 ≤ 1024) (settings : Settings) (stands : HeapStands w memory settings image) (input : List ℕ) (bytes : AreBytes input) (left : LeavesHeap settings memory image input) where
     abbrev begin : MirState
     begin = mir_start (program_of core stack) input
 
@@ -116,21 +123,13 @@ module _ (core : Core) (mir : Mir) (stack : ℕ) (low : Low) (w : Placed) (image
     there : low_at started.goes.steps ≡ started.to
     there = started.goes.ends
 
-    -- low code is never bad: not in the first steps, and not behind them
     good : NeverBad g.low g.placement low_first
-    good n = by (cases_lt n started.goes.steps)
-      where
-        by : (n < started.goes.steps) ⊎ (started.goes.steps ≤ n) → (low_at n).ending ≢ Bad
-        by (inl before) = fine_before g n started.goes.steps low_first started.to (omega arith) there (subst (λ (s : LowState). s.ending ≢ Bad) (run_none (low_machine g.low g.placement) started.to) (never_bad g begin started.to middle 0))
-        by (inr behind) =
-            let e : started.goes.steps + (n - started.goes.steps) ≡ n = omega arith in
-            let is : low_at n ≡ run (low_machine g.low g.placement) (n - started.goes.steps) started.to = ap low_at (sym e) ∙ run_add (low_machine g.low g.placement) started.goes.steps (n - started.goes.steps) low_first ∙ ap (run (low_machine g.low g.placement) (n - started.goes.steps)) there in
-            subst (λ (s : LowState). s.ending ≢ Bad) (sym is) (never_bad g begin started.to middle (n - started.goes.steps))
+    good = low_is_good g fit loaded follows input
 
     -- ---- what the optimizer makes of it
 
     abbrev better_first : LowState
-    better_first = low_start w image input
+    better_first = low_start w memory input
 
     abbrev better_at : ℕ → LowState
     better_at n = run (low_machine w.low (placement_of w)) n better_first
@@ -143,7 +142,7 @@ module _ (core : Core) (mir : Mir) (stack : ℕ) (low : Low) (w : Placed) (image
 
     -- ---- the image
 
-    runs : Runs w image input
+    runs : Runs w memory image input
     runs = does input bytes (better_is_good g w.low low_first better_first short good)
 
     abbrev lower : Agreement (selected w) better_first runs.along.first
@@ -503,5 +502,63 @@ module _ (core : Core) (mir : Mir) (stack : ℕ) (low : Low) (w : Placed) (image
     unfolding idles
     unread m before calls = let less = (settles (image_begin image input) (far 0)).few in unread_far m (omega arith) calls
 
-    pub along : GoesAlong (program_of core stack) image input
-    along = record { unread = unread; reads = reads; point = point; rises = rises; passes = passes; alike = alike; safe = runs.safe; first = first; soon = soon }
+    -- ---- the heap
+
+    abbrev heap : ℕ
+    heap = heap_size settings
+
+    nameless : (n : ℕ) → IsNameless (source_run (program_of core stack) input n).world
+    nameless n =
+        let world = ap (λ (x : MirState). x.world) (upper.states n).same in
+        subst (λ (x : World). IsNameless x) world (nameless_run (managed g) plain.exceptions plain.outs (program_of core stack) typed coded input plain.globals (upper.point n))
+
+    all_served : (n : ℕ) → IsServed (program_of core stack) heap input n
+    all_served = serves (program_of core stack) input nameless heap
+
+    -- the image has not ended before its first point, so that lies behind the first steps
+    begun_first : start_steps ≤ point 0
+    unfolding idles
+    begun_first =
+        let begins : (source_run (program_of core stack) input 0).world.ending ≡ Running = ap (λ (s : SourceState). s.world.ending) (run_none (source (program_of core stack)) (start (program_of core stack) input)) in
+        let running : (image_run image input (far 0)).ending ≡ GoesOn = subst (λ e. EndsAlike e (image_run image input (far 0)).ending) begins (far_alike 0).ending in
+        let going_on : going (image_run image input (far 0)) ≡ 1 = ap while_running running in
+        let all = (settles (image_begin image input) (far 0)).all (omega arith) in
+        let first_steps = runs.along.begun in
+        omega arith
+
+    begun_before : (n : ℕ) → start_steps ≤ point n
+    begun_before n =
+        let begins = begun_first in
+        let risen = rises_on point rises 0 n in
+        let e : 0 + n ≡ n = omega arith in
+        let same = ap point e in
+        omega arith
+
+    held_at : (n m : ℕ) → start_steps ≤ m → Held (source_run (program_of core stack) input n) (heap_after (program_of core stack) heap input n) (image_run image input m).memory
+    held_at n m behind =
+        subst (λ (h : Heap). Held (source_run (program_of core stack) input n) h (image_run image input m).memory) (sym (ap (λ b. b.beside) (heaped_is (program_of core stack) input nameless heap n)))
+        (held_still w memory (image_run image input m).memory settings image stands (λ x is. left m x behind is) (source_run (program_of core stack) input n) (nameless n))
+
+    never_short : (n : ℕ) → IsShort (program_of core stack) heap input n → EndsShort (program_of core stack) heap image input n (point n)
+    never_short n is = let clash : true ≡ false = sym is.here ∙ all_served (suc n) in absurd cc
+
+    pub along : GoesAlong (program_of core stack) (heap_size settings) image input
+    along =
+        record {
+          point = point;
+          rises = rises;
+          passes = λ served. passes;
+          alike = λ n served. alike n;
+          held = λ n served. held_at n (point n) (begun_before n);
+          written = λ n m served past before writes. held_at n (suc m) (let least = begun_before n in omega arith);
+          short = never_short;
+          safe = runs.safe;
+          unread = unread;
+          reads = λ n m served past before calls. reads n m past (before (all_served (suc n))) calls;
+          first = first;
+          soon = λ n served running. le_trans (soon n running) (let more = more_work n in omega arith);
+          served = all_served;
+        }
+      where
+        more_work : (n : ℕ) → most_for_work * cost_above (program_of core stack) (source_run (program_of core stack) input n) ≤ most_steps_at (program_of core stack) heap input n
+        more_work n = omega arith

@@ -8,12 +8,12 @@ use Rattle.op_expand.specs.Calls.{runtime}
 use Rattle.op_expand.specs.Programs.{low_of}
 use Rattle.op_expand.specs.Routines.{most_charge}
 use Rattle.op_constants.specs.Literals.{literals_of}
+use Rattle.op_image.specs.Beginning.{begun}
 use Rattle.op_image.specs.Building.{is_buildable}
 use Rattle.op_layout.specs.Places.{layout_of}
-use Rattle.op_image.specs.Means.{AreBytes, HasRoom, Runs, low_start}
-use Rattle.op_link.specs.Image.{first_failing, regions_in}
-use Rattle.op_link.specs.Memory.{are_in_range}
-use Rattle.op_link.specs.Region.{byte_in}
+use Rattle.op_image.specs.Means.{AreBytes, HasRoom, HeapStands, LeavesHeap, Runs, guarded, low_start}
+use Rattle.op_link.specs.Image.{first_failing}
+use Rattle.op_link.specs.Memory.{are_in_range, heap_size}
 use Rattle.op_link.specs.declared.memory_map.Settings.{Settings}
 use Rattle.op_low.specs.Machine.{NeverBad}
 use Rattle.op_low.specs.State.{space}
@@ -23,21 +23,25 @@ use Rattle.op_lower.specs.Lowers.{Lowers}
 use Rattle.op_managed.specs.Managed.{Manages}
 use Rattle.op_meaning.specs.Frames.{program_of}
 use Rattle.op_mir.specs.declared.code.Mir.{Mir}
+use Rattle.op_typing.proofs.CodeTyped.{code_is_typed}
 use Rattle.op_optimize.proofs.Optimized.{shortens, thins}
 use Rattle.op_optimize.specs.Optimizing.{Optimizes}
 use Rattle.op_plain.proofs.PlainLemmas.{plain_by_test}
 use Rattle.op_plain.specs.Claims.{IsPlainCore}
 use Rattle.op_plain.specs.Plain.{is_plain_program}
-use Rattle.op_select.specs.Going.{Setting as Placed, placement_of}
+use Rattle.op_select.specs.Going.{IsSetting, Setting as Placed, placement_of}
 use Rattle.op_agreement.proofs.Driver.{low_code_follows}
 use Rattle.op_agreement.proofs.Expanding.{entry}
 use Rattle.op_agreement.specs.Fitting.{IsFitting, IsPlacedProgram}
-use Rattle.op_agreement.specs.Starting.{IsLoaded}
+use Rattle.op_agreement.specs.Starting.{IsLoaded, low_begins}
 use Rattle.op_correctness.proofs.Composing.{along}
 use Rattle.op_correctness.proofs.Fits.{program_fits}
+use Rattle.op_correctness.proofs.Good.{low_is_good}
+use Rattle.op_correctness.proofs.Guarded.{LiesInFront, still_loaded, still_placed}
 use Rattle.op_correctness.proofs.Better.{stays_buildable}
 use Rattle.op_correctness.proofs.Fitting.{low_is_buildable, low_is_valid}
-use Rattle.op_correctness.proofs.Loaded.{bottom_is, loaded, placed}
+use Rattle.op_correctness.proofs.Loaded.{bottom_is, lies_in_front, loaded, placed}
+use Rattle.op_correctness.proofs.Shortened.{better_is_good}
 use Rattle.op_correctness.proofs.PlainItems.{program_plain}
 use Rattle.op_correctness.proofs.Space.{is_spacious, program_space}
 use Rattle.op_correctness.proofs.Thinner.{same_space}
@@ -60,23 +64,41 @@ stack_few settings range = grind (arith, nat_tests, range)
 
 -- ---- over any place of the program
 
-module _ (core : Core) (mir : Mir) (stack : ℕ) (low : Low) (is_low : low ≡ low_of core mir stack) (w : Placed) (image : List ℕ) (class : IsPlainCore core) (sound : IsSound core) (nesting : IsSoundNesting core) (lowers : Lowers core mir) (manages : Manages core mir) (optimizes : Optimizes low w.low) where
-  fits : stack ≤ most_charge → IsPlacedProgram (setting_by core mir stack low w image) → IsFitting (setting_by core mir stack low w image)
+module _ (core : Core) (mir : Mir) (stack : ℕ) (low : Low) (is_low : low ≡ low_of core mir stack) (w : Placed) (memory : ℕ → ℕ) (image : List ℕ) (class : IsPlainCore core) (sound : IsSound core) (nesting : IsSoundNesting core) (lowers : Lowers core mir) (manages : Manages core mir) (optimizes : Optimizes low w.low) where
+  fits : stack ≤ most_charge → IsPlacedProgram (setting_by core mir stack low w memory) → IsFitting (setting_by core mir stack low w memory)
   fits few is_placed =
-      program_fits (setting_by core mir stack low w image) sound nesting (simple_core core class) lowers is_low
-      (is_spacious core mir stack sound nesting (simple_core core class) (core_charges core class) lowers low is_low w optimizes image) (core_charges core class) few is_placed
+      program_fits (setting_by core mir stack low w memory) sound nesting (simple_core core class) lowers is_low
+      (is_spacious core mir stack sound nesting (simple_core core class) (core_charges core class) lowers low is_low w optimizes memory) (core_charges core class) few is_placed
 
   low_valid : is_valid low ≡ true
   low_valid = subst (λ l. is_valid l ≡ true) (sym is_low) (low_is_valid core mir sound nesting (simple_core core class) (core_charges core class) lowers stack)
 
-  agrees_by : space w.low (placement_of w) w.low.entry.0 ≤ 1024 → first_failing image ≡ None → ((input : List ℕ) → AreBytes input → NeverBad w.low (placement_of w) (low_start w image input) → Runs w image input) → stack ≤ most_charge → IsPlacedProgram (setting_by core mir stack low w image) → IsLoaded (setting_by core mir stack low w image) → Agrees (program_of core stack) image
-  agrees_by own loads does few is_placed is_loaded = record {
+  -- over this place the better code is never bad
+  better_good : (few : stack ≤ most_charge) → IsPlacedProgram (setting_by core mir stack low w memory) → IsLoaded (setting_by core mir stack low w memory) → (input : List ℕ) → NeverBad w.low (placement_of w) (low_start w memory input)
+  better_good few is_placed is_loaded input =
+      let g = setting_by core mir stack low w memory in
+      let fit = fits few is_placed in
+      let good = low_is_good g fit is_loaded (low_code_follows g fit) input in
+      better_is_good g w.low (low_begins g input) (low_start w memory input) (shortens low w.low optimizes (placement_of w) low_valid w.bottom (w.top - w.bottom) memory input good) good
+
+module _ (core : Core) (mir : Mir) (stack : ℕ) (low : Low) (is_low : low ≡ low_of core mir stack) (w : Placed) (memory : ℕ → ℕ) (image : List ℕ) (class : IsPlainCore core) (sound : IsSound core) (nesting : IsSoundNesting core) (lowers : Lowers core mir) (manages : Manages core mir) (optimizes : Optimizes low w.low) where
+  agrees_by : (law : IsSetting w) (settings : Settings) → HeapStands w memory settings image → space w.low (placement_of w) w.low.entry.0 ≤ 1024 → first_failing image ≡ None
+      → ((input : List ℕ) → AreBytes input → NeverBad w.low (placement_of w) (low_start w memory input) → Runs w memory image input)
+      → ((input : List ℕ) → AreBytes input → NeverBad w.low (placement_of (guarded w settings)) (low_start (guarded w settings) memory input) → LeavesHeap settings memory image input)
+      → stack ≤ most_charge → IsPlacedProgram (setting_by core mir stack low w memory) → IsLoaded (setting_by core mir stack low w memory) → LiesInFront (setting_by core mir stack low w memory)
+      → Agrees (program_of core stack) (heap_size settings) image
+  agrees_by law settings stands own loads does leaves few is_placed is_loaded front = record {
     loads = loads;
     along = λ input bytes.
-        along core mir stack low w image does
-        (λ bytes_in good. shortens low w.low optimizes (placement_of w) low_valid w.bottom (w.top - w.bottom) (byte_in (regions_in image)) bytes_in good)
-        (fits few is_placed) is_loaded (low_code_follows (setting_by core mir stack low w image) (fits few is_placed)) manages
-        (program_plain core stack sound nesting (simple_core core class) class.endings class.globals) own input bytes;
+        let fit = fits core mir stack low is_low w memory image class sound nesting lowers manages optimizes few is_placed in
+        let still = still_placed core mir stack low w law memory settings stands.below front is_placed in
+        let loaded_still = still_loaded core mir stack low w law memory settings stands.below front is_loaded in
+        along core mir stack low w memory image does
+        (λ bytes_in good. shortens low w.low optimizes (placement_of w) (low_valid core mir stack low is_low w memory image class sound nesting lowers manages optimizes) w.bottom (w.top - w.bottom) memory bytes_in good)
+        fit is_loaded (low_code_follows (setting_by core mir stack low w memory) fit) manages
+        (program_plain core stack sound nesting (simple_core core class) class.endings class.globals)
+        (code_is_typed core stack sound nesting (simple_core core class).simple) (lowers.blocks stack) own settings stands input bytes
+        (leaves input bytes (better_good core mir stack low is_low (guarded w settings) memory image class sound nesting lowers manages optimizes few still loaded_still input));
   }
 
 -- ---- in its image
@@ -113,15 +135,17 @@ module _ (core : Core) (mir : Mir) (settings : Settings) (image : List ℕ) (pla
       let own = entry_space in
       omega arith
 
-  pub correct : Agrees (program_of core (1024 * settings.stack)) image
+  pub correct : Agrees (program_of core (1024 * settings.stack)) (heap_size settings) image
   correct =
       let bottom = bottom_is settings in
       let less = few in
       let own = own_space in
-      agrees_by core mir (1024 * settings.stack) (program_low core mir settings) refl w image class sound nesting lowers manages built.optimizes entry_space built.means.loads
-      (λ input bytes good. built.means.runs has_room input bytes good) (omega arith)
+      agrees_by core mir (1024 * settings.stack) (program_low core mir settings) refl w (begun settings image) image class sound nesting lowers manages built.optimizes
+      built.means.setting settings built.means.heap entry_space built.means.loads
+      (λ input bytes good. built.means.runs has_room input bytes good) (λ input bytes good. built.means.leaves has_room input bytes good) (omega arith)
       (placed core mir settings better built.optimizes image built.means sound few)
       (loaded core mir settings better built.optimizes image built.means sound few lowers class.globals (omega arith))
+      (lies_in_front core mir settings better built.optimizes image built.means sound few)
 
 -- ---- low code may be built
 

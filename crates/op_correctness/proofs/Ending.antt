@@ -19,16 +19,16 @@ ended_halts b status is = record {
   silent = ap (λ e. riscv_shows e b) is;
 }
 
-module _ (p : Program) (image input : List ℕ) (along : GoesAlong p image input) (m status : ℕ) (is : (image_run image input m).ending ≡ HasEnded status) where
+module _ (p : Program) (heap : ℕ) (image input : List ℕ) (along : GoesAlong p heap image input) (m status : ℕ) (is : (image_run image input m).ending ≡ HasEnded status) where
   -- so many steps of the program, whose point lies behind the end of the image
   abbrev steps : ℕ
-  steps = (along.passes m).steps
+  steps = (along.passes along.served m).steps
 
   stands_so : image_run image input (along.point steps) ≡ image_run image input m
-  stands_so = run_past_end riscv_machine m (along.point steps) (start image input) (ended_halts (image_run image input m) status is) (along.passes m).passed
+  stands_so = run_past_end riscv_machine m (along.point steps) (start image input) (ended_halts (image_run image input m) status is) (along.passes along.served m).passed
 
   alike : LooksAlike (source_run p input steps) (image_run image input m)
-  alike = subst (LooksAlike (source_run p input steps)) stands_so (along.alike steps)
+  alike = subst (LooksAlike (source_run p input steps)) stands_so (along.alike steps (along.served steps))
 
   ending_is : (e : Ending) → EndsAlike e (image_run image input m).ending → e ≡ Ended status
   ending_is Running goes_on = let clash : GoesOn ≡ HasEnded status = sym goes_on ∙ is in absurd cc

@@ -20,7 +20,7 @@ use Rattle.op_mir.specs.declared.code.Block.{Block}
 use Rattle.op_mir.specs.declared.code.Mir.{Mir}
 use Rattle.op_mir.specs.declared.code.Routine.{Routine}
 use Rattle.op_mir.specs.declared.instruction.Arm.{Arm}
-use Rattle.op_mir.specs.declared.instruction.Instruction.TheVariants.{Act, Call, Jump, When, Unless, Switch, Dispatch, MakeDue, Stop, Return}
+use Rattle.op_mir.specs.declared.instruction.Instruction.TheVariants.{Act, Call, Jump, When, Unless, Switch, Dispatch, MakeDue, OpenTemporaries, EndTemporary, Stop, Return}
 use Rattle.op_mir.specs.declared.instruction.Instruction.{Instruction}
 use Rattle.op_typing.specs.Simple.{IsSimpleProgram}
 use Rattle.op_typing.specs.Typed.{AreTypedInstrs, AreWords, IsTypedInstr}
@@ -62,6 +62,8 @@ leaves_it core r (Unless t block) last = absurd last
 leaves_it core r (Switch t arms) last = absurd last
 leaves_it core r (Dispatch t block) last = absurd last
 leaves_it core r (MakeDue f) last = absurd last
+leaves_it core r (OpenTemporaries ts) last = absurd last
+leaves_it core r (EndTemporary t) last = absurd last
 leaves_it core r (Stop t) last = absurd last
 leaves_it core r Return last = tt
 
@@ -82,6 +84,8 @@ module _ (core : Core) (sound : IsSound core) (simple : IsSimpleProgram core) (m
   instruction_fine (Switch t arms) typed targeted low = (has_it core sound mir r x types variables locals t low, arms_words arms typed, arms_lead x arms targeted)
   instruction_fine (Dispatch t block) typed targeted low = (has_it core sound mir r x types variables locals t (omega (arith, low)), targeted)
   instruction_fine (MakeDue f) typed (own, closing) low = (omega (arith, own, number), closing)
+  instruction_fine (OpenTemporaries ts) typed targeted low = absurd targeted
+  instruction_fine (EndTemporary t) typed targeted low = absurd targeted
   instruction_fine (Stop t) typed targeted low = has_it core sound mir r x types variables locals t low
   instruction_fine Return typed targeted low = tt
 

@@ -7,12 +7,16 @@ pub mod Ending
 pub mod Finalizations
 pub mod Fits
 pub mod Fitting
+pub mod Good
 pub mod Grows
+pub mod Guarded
+pub mod HeapHeld
 pub mod Instructions
 pub mod Loaded
 pub mod Making
 pub mod ManagedValid
 pub mod Named
+pub mod Nameless
 pub mod Needed
 pub mod OperandKinds
 pub mod OwnCode
@@ -24,6 +28,7 @@ pub mod PlainItems
 pub mod ProgramCode
 pub mod ReadCalls
 pub mod RoutineCode
+pub mod Serving
 pub mod Settling
 pub mod Shortened
 pub mod Showing

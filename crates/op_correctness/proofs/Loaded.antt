@@ -19,9 +19,16 @@ use Rattle.op_core.specs.declared.routine.Variable.{Variable}
 use Rattle.op_core.specs.declared.types.CoreType.{CoreType}
 use Rattle.op_expand.specs.Calls.{runtime}
 use Rattle.op_expand.specs.Programs.{global_of, low_of}
+use Rattle.op_heap.specs.Demands.{first_heap}
+use Rattle.op_heap.specs.Instances.{TableLies}
+use Rattle.op_heap.specs.Memory.{HeapLies}
+use Rattle.op_image.proofs.HeapBegun.{begun_small}
 use Rattle.op_image.proofs.Started.{bytes_small}
+use Rattle.op_image.specs.Beginning.{begun}
 use Rattle.op_image.specs.Means.{Means}
-use Rattle.op_link.specs.Memory.{stack_address}
+use Rattle.op_link.specs.Image.{regions_in}
+use Rattle.op_link.specs.Memory.{heap_size, stack_address}
+use Rattle.op_link.specs.Region.{byte_in}
 use Rattle.op_link.specs.declared.memory_map.Settings.{Settings}
 use Rattle.op_low.specs.State.{routine_of, routine_or, space}
 use Rattle.op_low.specs.declared.code.Low.{Low}
@@ -37,11 +44,12 @@ use Rattle.op_rt_text.specs.Runtime.{runtime_routines}
 use Rattle.op_select.specs.Frames.{frame_of}
 use Rattle.op_agreement.proofs.Expanding.{entry, has_runtime}
 use Rattle.op_agreement.proofs.LowGlobals.{global_made, stack_made}
-use Rattle.op_agreement.specs.Fitting.{IsPlacedProgram}
+use Rattle.op_agreement.specs.Fitting.{HasHeap, IsPlacedProgram}
 use Rattle.op_agreement.specs.Settings.{Setting}
 use Rattle.op_agreement.specs.Starting.{IsLoaded}
 use Rattle.op_agreement.specs.Typed.{IsGlobal}
-use Rattle.op_correctness.proofs.Placing.{global_stands, globals_apart, literal_stands, stack_aligned, stack_word, values_loaded, zeros_loaded, due_stands}
+use Rattle.op_correctness.proofs.Guarded.{LiesInFront, heap_placed}
+use Rattle.op_correctness.proofs.Placing.{due_before, global_before, global_stands, globals_apart, literal_stands, stack_aligned, stack_word, values_loaded, zeros_loaded, due_stands}
 use Rattle.op_correctness.proofs.Thinner.{frames_less}
 use Rattle.op_correctness.specs.Placed.{setting_in}
 
@@ -93,6 +101,13 @@ module _ (core : Core) (mir : Mir) (settings : Settings) (better : Low) (optimiz
   made : (v : ℕ) (row : Variable) → IsGlobal core v → slice_get core.variables v ≡ Some row → slice_get (program_low core mir settings).globals v ≡ Some (global_of core (Some row))
   made v row global is = global_made g low_is v global ∙ ap (λ o. Some (global_of core o)) is
 
+  pub lies_in_front : LiesInFront (setting_in core mir settings better image)
+  lies_in_front =
+      record {
+        globals = λ v global. let (row, is) = row_at v global in global_before core mir settings better optimizes image means v row is (made v row global is);
+        due = due_before core mir settings better optimizes image means (stack_made g low_is);
+      }
+
   pub placed : IsPlacedProgram (setting_in core mir settings better image)
   placed =
       let bottom = bottom_is settings in
@@ -103,6 +118,7 @@ module _ (core : Core) (mir : Mir) (settings : Settings) (better : Low) (optimiz
         globals = λ v global. let (row, is) = row_at v global in global_stands core mir settings better optimizes image means v row sound.extents is (made v row global is) (small_row v row global is);
         apart = λ v u differ one other. let (a, is_a) = row_at v one in let (b, is_b) = row_at u other in globals_apart core mir settings better optimizes image means v u a b differ is_a is_b (made v a one is_a) (made u b other is_b);
         due = due_stands core mir settings better optimizes image means (stack_made g low_is) (λ v global. let (row, is) = row_at v global in (row, is, made v row global is)) few;
+        heap = heap_placed g (heap_size settings) lies_in_front means.heap.bounds.heap_bytes means.heap.below;
         whole = omega arith;
         top = omega arith;
         readable = means.setting.readable;
@@ -127,8 +143,9 @@ module _ (core : Core) (mir : Mir) (settings : Settings) (better : Low) (optimiz
         entry = entry g low_is lowers.number;
         zeros = λ v global none x low. let (row, is) = row_at v global in zeros_loaded core mir settings better optimizes image means v row is (sym (first_is v row is) ∙ none) (made v row global is) x low;
         values = λ v value global some. let (row, is) = row_at v global in (fits v row value global is (sym (first_is v row is) ∙ some), λ x low. values_loaded core mir settings better optimizes image means v row value is (sym (first_is v row is) ∙ some) (made v row global is) x low);
-        bytes = λ x low. bytes_small image x means.bytes;
-        stack_whole = stack_aligned settings.stack _ image _ stack;
+        bytes = λ x low. begun_small (byte_in (regions_in image)) (heap_size settings) (1024 * settings.stack) x (bytes_small image x means.bytes);
+        heap = subst (λ n. HeapLies (λ name. 0) g.loaded (first_heap n) → TableLies g.loaded (first_heap n) → HasHeap g g.loaded) means.heap.bounds.heap_bytes (λ lies table. record { lies = lies; table = table }) (means.heap.lies (λ name. 0)) means.heap.table;
+        stack_whole = stack_aligned settings.stack _ (begun settings image) _ stack;
         stack_readable = stack.readable;
         stack_below = stack.below;
         stack_told = told;

@@ -25,7 +25,7 @@ use Rattle.op_mir.specs.declared.code.Mir.{Mir}
 use Rattle.op_mir.specs.declared.code.Routine.{Routine}
 use Rattle.op_mir.specs.declared.ids.BlockId.{BlockId}
 use Rattle.op_mir.specs.declared.instruction.Arm.{Arm}
-use Rattle.op_mir.specs.declared.instruction.Instruction.TheVariants.{Act, Call, Jump, When, Unless, Switch, Dispatch, MakeDue, Stop, Return}
+use Rattle.op_mir.specs.declared.instruction.Instruction.TheVariants.{Act, Call, Jump, When, Unless, Switch, Dispatch, MakeDue, OpenTemporaries, EndTemporary, Stop, Return}
 use Rattle.op_mir.specs.declared.instruction.Instruction.{Instruction}
 use Rattle.op_plain.proofs.PlainLemmas.{plain_by_test}
 use Rattle.op_plain.specs.Plain.{is_plain_program}
@@ -76,6 +76,8 @@ leaves_code core r (Unless t block) last = absurd last
 leaves_code core r (Switch t arms) last = absurd last
 leaves_code core r (Dispatch t block) last = absurd last
 leaves_code core r (MakeDue f) last = absurd last
+leaves_code core r (OpenTemporaries ts) last = absurd last
+leaves_code core r (EndTemporary t) last = absurd last
 leaves_code core r (Stop t) last = absurd last
 leaves_code core r Return last = refl
 
@@ -113,6 +115,8 @@ module _ (core : Core) (sound : IsSound core) (mir : Mir) (number : length mir.r
   instruction_valid (Switch t arms) is leads due below = and_from _ (list_all (arm_fits x) arms) (has_it core sound mir r x types variables as_many t below) (arms_there x arms leads)
   instruction_valid (Dispatch t block) is leads due below = and_from (nat_lt (t.0 + 1) x.temporaries) (has_ways x block) (is_below (t.0 + 1) x.temporaries (omega (arith, below))) (is_below (block.0 + 3) (length x.blocks) leads)
   instruction_valid (MakeDue f) is leads (there, part) below = and_from (has_routine mir f) _ (is_below f.0 (length mir.routines) (omega (arith, there, number))) part
+  instruction_valid (OpenTemporaries ts) is leads due below = absurd leads
+  instruction_valid (EndTemporary t) is leads due below = absurd leads
   instruction_valid (Stop t) is leads due below = has_it core sound mir r x types variables as_many t below
   instruction_valid Return is leads due below = refl
 

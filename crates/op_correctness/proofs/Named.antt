@@ -34,7 +34,7 @@ use Rattle.op_frames.specs.Named.{IsNamed, IsNamedAction, IsNamedArm, IsNamedCal
 use Rattle.op_meaning.specs.Actions.{Action, constant, load, store, copy, look, begin_with, pick, arithmetic, compare, negate, complement, invert, absolute, odd, upper, low_bits, check, neighbour, single, span, combine, contains, check_set, primitive}
 use Rattle.op_meaning.specs.Items.{Given, by_value, by_place, by_copy, Receiver, nowhere, to_temp, to_place}
 use Rattle.op_meaning.specs.Paths.{Path, Root, in_global, in_local, through, in_temporary, Step, field, element}
-use Rattle.op_meaning.specs.Primitives.{EachOperand, Operand, from_temp, literal_text}
+use Rattle.op_meaning.specs.Primitives.{EachOperand, Operand, from_temp, literal_text, text_at}
 use Rattle.op_meaning.specs.Shapes.{part_type, shape_of}
 use Rattle.op_mir.specs.Code.{Arm, Instr, do_act, do_call, jump, when, unless, switch, dispatch, make_due, open_temporaries, end_temporary, stop, ret}
 use Rattle.op_typing.proofs.Rows.{some_and}
@@ -141,6 +141,7 @@ module _ (core : Core) (sound : IsSound core) where
   operands_named : (os : List Operand) → EachOperand IsTypedOperand os → EachOperand IsNamedOperand os
   operands_named [] each = tt
   operands_named (from_temp t ∷ os) each = (tt, operands_named os each.1)
+  operands_named (text_at path ∷ os) each = absurd each.0
   operands_named (literal_text text ∷ os) each = (text_word (length text) each.0.0, operands_named os each.1)
 
   -- So does an action.
@@ -154,7 +155,7 @@ module _ (core : Core) (sound : IsSound core) where
   action_named r (pick to text index) (short, bytes) = text_word (length text) short
   action_named r (neighbour distance low high to a) t = t.0
   action_named r (check_set all to a) t = others_word all
-  action_named r (primitive p operands to) t = record { sorts = t.sorts; each = operands_named operands t.each; taken = t.taken }
+  action_named r (primitive p operands to) t = record { sorts = t.sorts; each = operands_named operands t.each; taken = t.taken; nothing = t.nothing }
   action_named r (arithmetic o checked to a b) t = tt
   action_named r (compare o to a b) t = tt
   action_named r (negate checked to a) t = tt

@@ -20,17 +20,18 @@ use Rattle.op_core.specs.declared.routine.Parameter.{Parameter as ParameterRow}
 use Rattle.op_core.specs.declared.routine.Variable.{Variable}
 use Rattle.op_core.specs.declared.types.CoreType.TheVariants.{Record, Array}
 use Rattle.op_core.specs.declared.types.IntegerKind.{IntegerKind}
-use Rattle.op_meaning.specs.Primitives.{IsTaken, gives, signature, sort_of}
+use Rattle.op_meaning.specs.Primitives.{EachOperand, IsTaken, gives, signature, sort_of}
 use Rattle.op_meaning.specs.Shapes.{field_type, is_reference, part_type, shape_of, variables_of}
+use Rattle.op_meaning.specs.declared.primitive.Sort.{Sort}
 use Rattle.op_mir.specs.Kinds.{are_from, are_given, are_taken, begins, calls, has_kinds, is_begun, is_destined, is_found, is_found_as, is_found_kept, is_given, is_kept_as, is_kind, is_number, is_of_unit, is_received, is_same_range, is_some_kind, is_taken, leads_to, leads_to_kind, of_global, of_own, of_referred, type_behind, type_behind_all, type_of_element, type_of_field, type_of_path, type_of_root}
 use Rattle.op_mir.specs.Shapes.{is_composite, kind_of}
 use Rattle.op_mir.specs.View.{view_action, view_destination, view_given, view_operand, view_path, view_receiver, view_root, view_step}
 use Rattle.op_mir.specs.declared.action.Action.{Action}
 use Rattle.op_mir.specs.declared.action.Action.TheVariants.{Constant, Load, Store, Copy, Look, BeginWith, Pick, Compute, Do}
 use Rattle.op_mir.specs.declared.action.Destination.{Destination}
-use Rattle.op_mir.specs.declared.action.Destination.TheVariants.{Unused, InTemporary}
+use Rattle.op_mir.specs.declared.action.Destination.TheVariants.{Unused, InTemporary, InNew, IntoPlace, OverPlace}
 use Rattle.op_mir.specs.declared.action.Operand.{Operand}
-use Rattle.op_mir.specs.declared.action.Operand.TheVariants.{Number, Literal}
+use Rattle.op_mir.specs.declared.action.Operand.TheVariants.{Number, Text, Literal}
 use Rattle.op_mir.specs.declared.instruction.Call.{Call as Operands}
 use Rattle.op_mir.specs.declared.instruction.Given.{Given}
 use Rattle.op_mir.specs.declared.instruction.Given.TheVariants.{ByValue, ByPlace, ByCopy}
@@ -43,23 +44,27 @@ use Rattle.op_mir.specs.declared.path.Step.{Step}
 use Rattle.op_mir.specs.declared.path.Step.TheVariants.{Field, Element}
 use Rattle.op_typing.proofs.Paths.{temporary_path}
 use Rattle.op_typing.proofs.Rows.{some_and}
-use Rattle.op_typing.specs.Typed.{AreTypedGiven as TypedGivens, HasVariable, IsComposite, IsSingle, IsSolid, IsTypedAction as TypedAction, IsTypedCall as TypedCall, IsTypedGiven as TypedGiven, IsTypedReceiver as TypedReceiver, OwnValue, PathTo as TypedPath, RootIs as TypedRoot, StandsFor}
+use Rattle.op_typing.specs.Typed.{AreTypedGiven as TypedGivens, HasVariable, IsComposite, IsSingle, IsSolid, IsTypedAction as TypedAction, IsTypedCall as TypedCall, IsTypedGiven as TypedGiven, IsTypedOperand, IsTypedReceiver as TypedReceiver, OwnValue, PathTo as TypedPath, RootIs as TypedRoot, StandsFor}
 use Rattle.op_correctness.proofs.Places.{global_in}
 
 -- ---- what primitives take and give
 
-operands_taken : (os : List Operand) → are_taken (map sort_of (map view_operand os)) os ≡ true
+operands_taken : (core : Core) (variables : Run) (os : List Operand) → EachOperand IsTypedOperand (map view_operand os) → are_taken core variables (map sort_of (map view_operand os)) os ≡ true
 unfolding is_taken
-operands_taken [] = refl
-operands_taken (Number t ∷ os) = operands_taken os
-operands_taken (Literal text ∷ os) = operands_taken os
+operands_taken core variables [] typed = refl
+operands_taken core variables (Number t ∷ os) typed = operands_taken core variables os typed.1
+operands_taken core variables (Text path ∷ os) typed = absurd typed.0
+operands_taken core variables (Literal text ∷ os) typed = operands_taken core variables os typed.1
 
-destined : (some : Bool) (to : Destination) → IsTaken some (view_destination to) → is_destined some to ≡ true
+-- nothing is given
+destined : (core : Core) (variables : Run) (gives : Option Sort) (to : Destination) → gives ≡ None → IsTaken gives (view_destination to) → is_destined core variables gives to ≡ true
 unfolding is_destined
-destined true Unused taken = absurd taken
-destined true (InTemporary t) taken = refl
-destined false Unused taken = refl
-destined false (InTemporary t) taken = absurd taken
+destined core variables (Some sort) to nothing taken = absurd cc
+destined core variables None Unused nothing taken = refl
+destined core variables None (InTemporary t) nothing taken = absurd taken
+destined core variables None (InNew of n) nothing taken = absurd taken
+destined core variables None (IntoPlace of to old) nothing taken = absurd taken
+destined core variables None (OverPlace to) nothing taken = absurd taken
 
 -- ---- tests
 
@@ -168,7 +173,7 @@ module _ (core : Core) where
       action_kinds (BeginWith v) (variable, small, is, fits) = ap (is_begun core) (own_type r v.0 _ variable) ∙ solid _ is
       action_kinds (Pick to text index) t = refl
       action_kinds (Compute c) t = refl
-      action_kinds (Do p os to) t = and_from (are_taken (signature p) os) (is_destined (gives p) to) (subst (λ sorts. are_taken sorts os ≡ true) t.sorts (operands_taken os)) (destined (gives p) to t.taken)
+      action_kinds (Do p os to) t = and_from (are_taken core variables (signature p) os) (is_destined core variables (gives p) to) (subst (λ sorts. are_taken core variables sorts os ≡ true) t.sorts (operands_taken core variables os t.each)) (destined core variables (gives p) to t.nothing t.taken)
 
       -- ---- calls
 

@@ -24,7 +24,7 @@ use Rattle.op_mir.specs.Code.{Instr, do_act, do_call, jump, when, unless, switch
 use Rattle.op_mir.specs.View.{view_given, view_instruction, view_receiver}
 use Rattle.op_mir.specs.declared.code.Block.{Block}
 use Rattle.op_mir.specs.declared.instruction.Given.{Given}
-use Rattle.op_mir.specs.declared.instruction.Instruction.TheVariants.{Act, Call, Jump, When, Unless, Switch, Dispatch, MakeDue, Stop, Return}
+use Rattle.op_mir.specs.declared.instruction.Instruction.TheVariants.{Act, Call, Jump, When, Unless, Switch, Dispatch, MakeDue, OpenTemporaries, EndTemporary, Stop, Return}
 use Rattle.op_mir.specs.declared.instruction.Instruction.{Instruction}
 use Rattle.op_mir.specs.declared.instruction.Receiver.TheVariants.{Nowhere, Temporary as ToTemporary, Place}
 use Rattle.op_mir.specs.declared.instruction.Receiver.{Receiver}
@@ -221,6 +221,8 @@ module _ (core : Core) (r n : ℕ) where
   bare_low (Switch t arms) bare = absurd bare
   bare_low (Dispatch t block) bare = absurd bare
   bare_low (MakeDue f) bare = omega arith
+  bare_low (OpenTemporaries ts) bare = absurd bare
+  bare_low (EndTemporary t) bare = absurd bare
   bare_low (Stop t) bare = absurd bare
 
   -- so do the instructions of code
@@ -244,6 +246,8 @@ module _ (core : Core) (r n : ℕ) where
   bare_light (Switch t arms) bare = absurd bare
   bare_light (Dispatch t block) bare = absurd bare
   bare_light (MakeDue f) bare = tt
+  bare_light (OpenTemporaries ts) bare = absurd bare
+  bare_light (EndTemporary t) bare = absurd bare
   bare_light (Stop t) bare = absurd bare
 
   all_light : (code : List Instruction) → Every (IsBare core) (map (view_instruction core r) code) → Every IsLight code

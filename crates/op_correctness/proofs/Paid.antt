@@ -19,7 +19,7 @@ use Rattle.op_mir.specs.declared.code.Mir.{Mir}
 use Rattle.op_mir.specs.declared.code.Routine.{Routine}
 use Rattle.op_mir.specs.declared.instruction.Arm.{Arm}
 use Rattle.op_mir.specs.declared.instruction.Instruction.{Instruction}
-use Rattle.op_mir.specs.declared.instruction.Instruction.TheVariants.{Act, Call, Jump, When, Unless, Switch, Dispatch, MakeDue, Stop, Return}
+use Rattle.op_mir.specs.declared.instruction.Instruction.TheVariants.{Act, Call, Jump, When, Unless, Switch, Dispatch, MakeDue, OpenTemporaries, EndTemporary, Stop, Return}
 use Rattle.op_agreement.specs.Typed.{IsCharged, IsLight, IsPaid, labels_in}
 use Rattle.op_correctness.proofs.Fitting.{body_there}
 use Rattle.op_correctness.proofs.Making.{items_made, nodes}
@@ -43,6 +43,8 @@ module _ (core : Core) (r top room : ℕ) (x : Routine) (less : room ≤ x.charg
   instruction_charged (Unless t block) p = tt
   instruction_charged (Dispatch t block) p = tt
   instruction_charged (MakeDue f) p = tt
+  instruction_charged (OpenTemporaries ts) p = tt
+  instruction_charged (EndTemporary t) p = tt
   instruction_charged (Stop t) p = tt
   instruction_charged Return p = tt
 

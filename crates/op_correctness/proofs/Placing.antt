@@ -25,10 +25,11 @@ use Rattle.op_core.specs.declared.types.IntegerKind.TheVariants.{Signed32}
 use Rattle.op_correctness.specs.Placed.{placed_in, setting_in}
 use Rattle.op_expand.specs.Programs.{global_of, stack_global, global_with}
 use Rattle.op_frames.proofs.GlobalsUnder.{size_with}
+use Rattle.op_image.specs.Beginning.{begun}
 use Rattle.op_image.specs.Means.{Means, StandsGlobal, StandsText}
 use Rattle.op_layout.specs.Places.{places_from}
 use Rattle.op_layout.specs.declared.layout.LiteralPlace.{LiteralPlace}
-use Rattle.op_link.specs.Memory.{LieApart, variable_size}
+use Rattle.op_link.specs.Memory.{LieApart, control_address, variable_size}
 use Rattle.op_link.specs.declared.memory_map.Settings.{Settings}
 use Rattle.op_low.specs.declared.code.Low.{Low}
 use Rattle.op_meaning.specs.Shapes.{type_of_row, type_of_variable}
@@ -83,8 +84,8 @@ aligned_by at size unit (inr (inl two)) whole words halves some = subst (λ u. a
 aligned_by at size unit (inr (inr four)) whole words halves some = subst (λ u. at % u ≡ 0) (sym four) (words some (subst (λ u. size % u ≡ 0) four whole))
 
 -- the word of the stack lies at a multiple of 4
-pub stack_aligned : (stack : ℕ) (w : Placed) (image : List ℕ) (at : ℕ) → StandsGlobal w image at (stack_global (1024 * stack)) → at % 4 ≡ 0
-stack_aligned stack w image at stands =
+pub stack_aligned : (stack : ℕ) (w : Placed) (memory : ℕ → ℕ) (at : ℕ) → StandsGlobal w memory at (stack_global (1024 * stack)) → at % 4 ≡ 0
+stack_aligned stack w memory at stands =
     let four : variable_size (stack_global (1024 * stack)) ≡ 4 = refl in
     stands.words (omega arith) (ap (λ n. n % 4) four)
 
@@ -93,7 +94,7 @@ module _ (core : Core) (mir : Mir) (settings : Settings) (better : Low) (optimiz
   literal_stands id bytes is =
       let (place, found, there) = literal_placed [] (literals_of core mir) id bytes is in
       let stands = means.literals (record { 0 = id }) place found in
-      let text : StandsText (placed_in core mir settings better image) image ((placed_in core mir settings better image).placing.address (literal id)) bytes = subst (StandsText (placed_in core mir settings better image) image ((placed_in core mir settings better image).placing.address (literal id))) there stands in
+      let text : StandsText (placed_in core mir settings better image) (begun settings image) ((placed_in core mir settings better image).placing.address (literal id)) bytes = subst (StandsText (placed_in core mir settings better image) (begun settings image) ((placed_in core mir settings better image).placing.address (literal id))) there stands in
       record { readable = text.readable; fixed = text.fixed; below = text.below; stands = text.stands }
 
   -- ---- global variables
@@ -105,7 +106,7 @@ module _ (core : Core) (mir : Mir) (settings : Settings) (better : Low) (optimiz
   global_in : (v : ℕ) (global : GlobalVariable) → slice_get (program_low core mir settings).globals v ≡ Some global → slice_get better.globals v ≡ Some global
   global_in v global there = ap (λ gs. slice_get gs v) optimizes.globals ∙ there
 
-  each_stands : (v : ℕ) (global : GlobalVariable) → slice_get (program_low core mir settings).globals v ≡ Some global → StandsGlobal (placed_in core mir settings better image) image (at_of v) global
+  each_stands : (v : ℕ) (global : GlobalVariable) → slice_get (program_low core mir settings).globals v ≡ Some global → StandsGlobal (placed_in core mir settings better image) (begun settings image) (at_of v) global
   each_stands v global there = means.globals.each (record { 0 = v }) global (global_in v global there)
 
   two_apart : (v u : ℕ) (a b : GlobalVariable) → v ≢ u → slice_get (program_low core mir settings).globals v ≡ Some a → slice_get (program_low core mir settings).globals u ≡ Some b → LieApart (at_of v) (variable_size a) (at_of u) (variable_size b)
@@ -136,6 +137,15 @@ module _ (core : Core) (mir : Mir) (settings : Settings) (better : Low) (optimiz
         below = omega arith;
       }
 
+  -- it lies in front of the control region
+  pub global_before : (v : ℕ) (row : Variable) → slice_get core.variables v ≡ Some row → slice_get (program_low core mir settings).globals v ≡ Some (global_of core (Some row)) → at_of v + size_in core (type_of_variable core v) ≤ control_address
+  global_before v row is there =
+      let stands = each_stands v (global_of core (Some row)) there in
+      let size = size_of_global row in
+      let same : size_in core (type_of_variable core v) ≡ variable_size (global_of core (Some row)) = ap (λ o. size_in core (type_of_row o)) is ∙ sym size in
+      let front = stands.before_control in
+      omega arith
+
   pub globals_apart : (v u : ℕ) (one other : Variable) → v ≢ u → slice_get core.variables v ≡ Some one → slice_get core.variables u ≡ Some other → slice_get (program_low core mir settings).globals v ≡ Some (global_of core (Some one)) → slice_get (program_low core mir settings).globals u ≡ Some (global_of core (Some other)) → Apart (at_of v) (size_in core (type_of_variable core v)) (at_of u) (size_in core (type_of_variable core u))
   globals_apart v u one other differ is_one is_other there_one there_other =
       let apart = two_apart v u (global_of core (Some one)) (global_of core (Some other)) differ there_one there_other in
@@ -148,12 +158,12 @@ module _ (core : Core) (mir : Mir) (settings : Settings) (better : Low) (optimiz
   pub zeros_loaded : (v : ℕ) (row : Variable) → slice_get core.variables v ≡ Some row → option_map (λ i. first_value_of i.value) row.first_value ≡ None → slice_get (program_low core mir settings).globals v ≡ Some (global_of core (Some row)) → (x : ℕ) → x < size_in core (type_of_variable core v) → (setting_in core mir settings better image).loaded (at_of v + x) ≡ 0
   zeros_loaded v row is none there x low =
       let begins : global_of core (Some row) ≡ record { initial = []; zeros = size_in core row.of } = rw none refl in
-      let stands : StandsGlobal (placed_in core mir settings better image) image (at_of v) (record { initial = []; zeros = size_in core row.of }) = each_stands v (record { initial = []; zeros = size_in core row.of }) (there ∙ ap (λ y. Some y) begins) in
+      let stands : StandsGlobal (placed_in core mir settings better image) (begun settings image) (at_of v) (record { initial = []; zeros = size_in core row.of }) = each_stands v (record { initial = []; zeros = size_in core row.of }) (there ∙ ap (λ y. Some y) begins) in
       let type : size_in core (type_of_variable core v) ≡ size_in core row.of = ap (λ o. size_in core (type_of_row o)) is in
       stands.zeros (at_of v + x) (omega arith) (omega arith)
 
   -- by whether it begins as zero
-  value_loaded : (v : ℕ) (bytes : List ℕ) (zeros : Bool) → are_zeros bytes ≡ zeros → StandsGlobal (placed_in core mir settings better image) image (at_of v) (if zeros then record { initial = []; zeros = length bytes } else record { initial = bytes; zeros = 0 }) → (x : ℕ) → x < length bytes → (setting_in core mir settings better image).loaded (at_of v + x) ≡ get_or bytes x 0
+  value_loaded : (v : ℕ) (bytes : List ℕ) (zeros : Bool) → are_zeros bytes ≡ zeros → StandsGlobal (placed_in core mir settings better image) (begun settings image) (at_of v) (if zeros then record { initial = []; zeros = length bytes } else record { initial = bytes; zeros = 0 }) → (x : ℕ) → x < length bytes → (setting_in core mir settings better image).loaded (at_of v + x) ≡ get_or bytes x 0
   value_loaded v bytes true none stands x low = stands.zeros (at_of v + x) (omega arith) (omega (arith, low)) ∙ sym (zeros_read bytes none x)
   value_loaded v bytes false some stands x low = byte_of (setting_in core mir settings better image).loaded (at_of v) bytes x stands.stands low
 
@@ -161,7 +171,7 @@ module _ (core : Core) (mir : Mir) (settings : Settings) (better : Low) (optimiz
   values_loaded v row value is some there x low =
       let bytes = first_bytes core row.of value in
       let begins : global_of core (Some row) ≡ global_with bytes = rw some refl in
-      let stands : StandsGlobal (placed_in core mir settings better image) image (at_of v) (global_with bytes) = each_stands v (global_with bytes) (there ∙ ap (λ y. Some y) begins) in
+      let stands : StandsGlobal (placed_in core mir settings better image) (begun settings image) (at_of v) (global_with bytes) = each_stands v (global_with bytes) (there ∙ ap (λ y. Some y) begins) in
       let type : type_of_variable core v ≡ row.of = ap type_of_row is in
       let size : size_in core (type_of_variable core v) ≡ size_in core row.of = ap (size_in core) type in
       let many = first-length core row.of value in
@@ -169,10 +179,17 @@ module _ (core : Core) (mir : Mir) (settings : Settings) (better : Low) (optimiz
 
   -- ---- the stack, and the word that tells its bytes
 
-  pub stack_word : slice_get (program_low core mir settings).globals (length core.variables) ≡ Some (stack_global (1024 * settings.stack)) → settings.stack ≤ 65536 → StandsGlobal (placed_in core mir settings better image) image (at_of (length core.variables)) (stack_global (1024 * settings.stack)) × (word_at (setting_in core mir settings better image).loaded (at_of (length core.variables)) ≡ 1024 * settings.stack)
+  pub stack_word : slice_get (program_low core mir settings).globals (length core.variables) ≡ Some (stack_global (1024 * settings.stack)) → settings.stack ≤ 65536 → StandsGlobal (placed_in core mir settings better image) (begun settings image) (at_of (length core.variables)) (stack_global (1024 * settings.stack)) × (word_at (setting_in core mir settings better image).loaded (at_of (length core.variables)) ≡ 1024 * settings.stack)
   stack_word there less =
       let stands = each_stands (length core.variables) (stack_global (1024 * settings.stack)) there in
       (stands, word_told (setting_in core mir settings better image).loaded (at_of (length core.variables)) (1024 * settings.stack) (omega arith) stands.stands)
+
+  -- it lies in front of the control region
+  pub due_before : slice_get (program_low core mir settings).globals (length core.variables) ≡ Some (stack_global (1024 * settings.stack)) → at_of (length core.variables) + 4 ≤ control_address
+  due_before there =
+      let front = (each_stands (length core.variables) (stack_global (1024 * settings.stack)) there).before_control in
+      let four : variable_size (stack_global (1024 * settings.stack)) ≡ 4 = refl in
+      omega arith
 
   -- the word stands apart from the global variables
   pub due_stands : slice_get (program_low core mir settings).globals (length core.variables) ≡ Some (stack_global (1024 * settings.stack)) → ((v : ℕ) → IsGlobal core v → (row : Variable) × (slice_get core.variables v ≡ Some row) × (slice_get (program_low core mir settings).globals v ≡ Some (global_of core (Some row)))) → settings.stack ≤ 65536 → DueStands (setting_in core mir settings better image) (at_of (length core.variables))
@@ -180,7 +197,7 @@ module _ (core : Core) (mir : Mir) (settings : Settings) (better : Low) (optimiz
       let stands = each_stands (length core.variables) (stack_global (1024 * settings.stack)) there in
       let below = stands.below in
       record {
-        words = stack_aligned settings.stack (placed_in core mir settings better image) image (at_of (length core.variables)) stands;
+        words = stack_aligned settings.stack (placed_in core mir settings better image) (begun settings image) (at_of (length core.variables)) stands;
         readable = stands.readable;
         writable = stands.writable;
         below = stands.below;

@@ -12,15 +12,17 @@ use Rattle.op_core.specs.declared.routine.Owner.TheVariants.{Unit as OfUnit}
 use Rattle.op_core.specs.declared.routine.Routine.{Routine as Row}
 use Rattle.op_frames.specs.Made.{AreMade, AreMadeCases, AreMadeTurns, IsMade}
 use Rattle.op_frames.specs.Within.{IsWithin}
+use Rattle.op_meaning.specs.Actions.{Action, constant, load, store, copy, look, begin_with, pick, arithmetic, compare, negate, complement, invert, absolute, odd, upper, low_bits, check, neighbour, single, span, combine, contains, check_set, primitive}
 use Rattle.op_meaning.specs.Calls.{ending_of}
 use Rattle.op_meaning.specs.Frames.{program_of}
 use Rattle.op_meaning.specs.Items.{Item, act, also, choose, select, loop, body_first, protect, leave, enter, scoped, attempt, throw, rethrow, halt, construct, free, Items, none, then_do, Turns, turns, Cases, no_cases, cases}
+use Rattle.op_meaning.specs.Primitives.{EachOperand, Operand, from_temp, literal_text, text_at}
 use Rattle.op_meaning.specs.Start.{first_pending}
 use Rattle.op_mir.specs.Code.{Instr, items_of}
-use Rattle.op_mir.specs.Plain.{ArePlain, ArePlainCases, ArePlainTurns, ArePlainUnits, IfExists, IsPlain, IsPlainItem, IsWay}
+use Rattle.op_mir.specs.Plain.{ArePlain, ArePlainCases, ArePlainTurns, ArePlainUnits, IfExists, IsPlain, IsPlainAction, IsPlainItem, IsPlainOperand, IsWay}
 use Rattle.op_typing.proofs.CodeTyped.{items_are_typed}
 use Rattle.op_typing.proofs.Rows.{some_and}
-use Rattle.op_typing.specs.Typed.{AreTyped, AreTypedCases, AreTypedTurns, IsTypedItem}
+use Rattle.op_typing.specs.Typed.{AreTyped, AreTypedCases, AreTypedTurns, IsTypedAction, IsTypedItem, IsTypedOperand}
 use Rattle.op_correctness.proofs.Making.{items_made, nodes}
 use Rattle.op_correctness.specs.SimpleCore.{IsSimpleCore}
 
@@ -33,6 +35,39 @@ few_ways (suc zero) few = tt
 few_ways (suc (suc zero)) few = tt
 few_ways (suc (suc (suc n))) few = absurd (omega arith)
 
+operands_plain : (os : List Operand) → EachOperand IsTypedOperand os → EachOperand IsPlainOperand os
+operands_plain [] typed = tt
+operands_plain (from_temp t ∷ os) typed = (tt, operands_plain os typed.1)
+operands_plain (text_at path ∷ os) typed = absurd typed.0
+operands_plain (literal_text bytes ∷ os) typed = (tt, operands_plain os typed.1)
+
+-- an action that is typed
+pub action_plain : (core : Core) (r : ℕ) (a : Action) → IsTypedAction core r a → IsPlainAction a
+action_plain core r (constant to n) typed = tt
+action_plain core r (load to kind from) typed = tt
+action_plain core r (store to kind from) typed = tt
+action_plain core r (copy of to from) typed = tt
+action_plain core r (look at) typed = tt
+action_plain core r (begin_with v of value) typed = tt
+action_plain core r (pick to chars index) typed = tt
+action_plain core r (arithmetic o checked to a b) typed = tt
+action_plain core r (compare o to a b) typed = tt
+action_plain core r (negate checked to a) typed = tt
+action_plain core r (complement to a) typed = tt
+action_plain core r (invert to a) typed = tt
+action_plain core r (absolute checked to a) typed = tt
+action_plain core r (odd to a) typed = tt
+action_plain core r (upper to a) typed = tt
+action_plain core r (low_bits kind to a) typed = tt
+action_plain core r (check low high to a) typed = tt
+action_plain core r (neighbour distance low high to a) typed = tt
+action_plain core r (single to a) typed = tt
+action_plain core r (span to a b) typed = tt
+action_plain core r (combine o to a b) typed = tt
+action_plain core r (contains to a b) typed = tt
+action_plain core r (check_set all to a) typed = tt
+action_plain core r (primitive p operands to) typed = (typed.nothing, operands_plain operands typed.each)
+
 -- Items that are typed and have code are plain, whatever is asked of their code.
 module _ (core : Core) (stack r : ℕ) (Q : Instr → Type 0) (blocks : ℕ) where
   mutual
@@ -42,7 +77,7 @@ module _ (core : Core) (stack r : ℕ) (Q : Instr → Type 0) (blocks : ℕ) whe
 
     -- of one item
     item_plain : (i : Item) → IsTypedItem core r i → IsMade Q blocks i → IsPlainItem (program_of core stack) i
-    item_plain (act a) typed made = tt
+    item_plain (act a) typed made = action_plain core r a typed
     item_plain (also truth t items) typed (branch, made) = items_plain items typed made
     item_plain (choose t first otherwise) (one, other) (branch, mine, yours) = (items_plain first one mine, items_plain otherwise other yours)
     item_plain (select t cs otherwise) (ones, other) (branch, mine, yours) = (cases_plain cs ones mine, items_plain otherwise other yours)

@@ -32,7 +32,7 @@ use Rattle.op_mir.specs.declared.code.Block.{Block}
 use Rattle.op_mir.specs.declared.code.Routine.{Routine}
 use Rattle.op_mir.specs.declared.instruction.Given.{Given}
 use Rattle.op_mir.specs.declared.instruction.Instruction.{Instruction}
-use Rattle.op_mir.specs.declared.instruction.Instruction.TheVariants.{Act, Call, Jump, When, Unless, Switch, Dispatch, MakeDue, Stop, Return}
+use Rattle.op_mir.specs.declared.instruction.Instruction.TheVariants.{Act, Call, Jump, When, Unless, Switch, Dispatch, MakeDue, OpenTemporaries, EndTemporary, Stop, Return}
 use Rattle.op_mir.specs.declared.instruction.Receiver.{Receiver}
 use Rattle.op_mir.specs.declared.instruction.Receiver.TheVariants.{Nowhere, Temporary as ToTemporary, Place}
 use Rattle.op_mir.specs.declared.path.Root.{Root}
@@ -145,6 +145,8 @@ module _ (core : Core) (r : ℕ) where
       room_is : (q : ℕ) (gs : List MeantGiven) (y : MeantReceiver) → gs ≡ [] → y ≡ nowhere → room_in (do_call q gs y None) ≤ 2
       room_is q gs y given receiver = let one : 1 + receiver_room y + givens_room gs ≡ 1 = ap₂ (λ gs y. 1 + receiver_room y + givens_room gs) given receiver in omega (arith, one)
   little (MakeDue f) own = record { temporaries = le_refl 0; room = le_refl 2; roots = λ roots. refl }
+  little (OpenTemporaries ts) own = absurd own
+  little (EndTemporary t) own = absurd own
   little Return own = record { temporaries = le_refl 0; room = omega arith; roots = λ roots. refl }
   little (Act a landing) own = absurd own
   little (Jump block) own = absurd own

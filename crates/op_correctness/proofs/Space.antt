@@ -70,7 +70,7 @@ at_other mir r x low found =
 
 module _ (core : Core) (mir : Mir) (stack : ℕ) (sound : IsSound core) (nesting : IsSoundNesting core) (is : IsSimpleCore core) (charges : HaveCharges core) (lowers : Lowers core mir) (low : Low) (is_low : low ≡ low_of core mir stack) (w : Placed) (optimizes : Optimizes low w.low) where
   abbrev g : Setting
-  g = setting_by core mir stack low w []
+  g = setting_by core mir stack low w (λ x. 0)
 
   -- ---- the frame of a routine, beside code that has as many literals as the routine names
 
@@ -159,9 +159,9 @@ module _ (core : Core) (mir : Mir) (stack : ℕ) (sound : IsSound core) (nesting
       let taken : space g.low g.placement (closing_number core) ≤ 0 + 4 * ((closing_routine core mir stack).registers + 1) = subst (λ (y : LowRoutine). space g.low g.placement (closing_number core) ≤ y.locals + 4 * (y.registers + 1)) same (as_expanded (closing_number core)) in
       omega (arith, taken, registers)
 
-  -- So it is wherever the image is.
-  pub is_spacious : (image : List ℕ) → IsSpacious (setting_by core mir stack low w image)
-  is_spacious image = record {
+  -- So it is over any memory.
+  pub is_spacious : (memory : ℕ → ℕ) → IsSpacious (setting_by core mir stack low w memory)
+  is_spacious memory = record {
     charged = λ r x found charge low_number. space_charged r x (at_other mir r x low_number found) charge;
     parts = λ r x found charge low_number none. space_left r x (at_other mir r x low_number found) charge none;
     closing = closing_space;

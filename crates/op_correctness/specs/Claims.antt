@@ -14,7 +14,7 @@ use Rattle.op_image.specs.Building.{is_buildable}
 use Rattle.op_image.specs.Means.{image_run}
 use Rattle.op_layout.specs.Places.{layout_of}
 use Rattle.op_link.specs.Linking.{linked_size}
-use Rattle.op_link.specs.Memory.{are_in_range, most_linked}
+use Rattle.op_link.specs.Memory.{are_in_range, heap_size, most_linked}
 use Rattle.op_link.specs.declared.memory_map.Settings.{Settings}
 use Rattle.op_low.specs.State.{space}
 use Rattle.op_low.specs.declared.code.Low.{Low}
@@ -41,23 +41,23 @@ ManagedCodeIsValid = (core : Core) (mir : Mir) → is_plain_program core ≡ tru
 abbrev pub ImageAgrees : Type 0
 ImageAgrees =
     (core : Core) (mir : Mir) (settings : Settings) (image : List ℕ) → is_plain_program core ≡ true → IsSound core → IsSoundNesting core → are_in_range settings ≡ true
-    → Lowers core mir → Manages core mir → IsBuilt core mir settings image → Agrees (program_of core (1024 * settings.stack)) image
+    → Lowers core mir → Manages core mir → IsBuilt core mir settings image → Agrees (program_of core (1024 * settings.stack)) (heap_size settings) image
 
 -- where an image ends that goes along with a program, the program ends with the same status, and has then written and left the same
 abbrev pub EndsAreMeant : Type 0
 EndsAreMeant =
-    (p : Program) (image input : List ℕ) → GoesAlong p image input → (m status : ℕ) → (image_run image input m).ending ≡ Ended status
+    (p : Program) (heap : ℕ) (image input : List ℕ) → GoesAlong p heap image input → (m status : ℕ) → (image_run image input m).ending ≡ Ended status
     → EndsAsMeant p input status (image_run image input m).output (image_run image input m).errors (image_run image input m).input
 
 -- where such an image calls for input, the program comes to a step that looks at its input
 abbrev pub CallsAreMeant : Type 0
 CallsAreMeant =
-    (p : Program) (image input : List ℕ) → GoesAlong p image input → (m : ℕ) → CallsRead (image_run image input m)
+    (p : Program) (heap : ℕ) (image input : List ℕ) → GoesAlong p heap image input → (m : ℕ) → CallsRead (image_run image input m)
     → LooksAsMeant p input (image_run image input m).output (image_run image input m).errors
 
 -- so the image of a program that never looks at its input never calls for any
 abbrev pub NeverCalls : Type 0
-NeverCalls = (p : Program) (image input : List ℕ) → GoesAlong p image input → (m : ℕ) → CallsRead (image_run image input m) → NeverLooks p input → ⊥
+NeverCalls = (p : Program) (heap : ℕ) (image input : List ℕ) → GoesAlong p heap image input → (m : ℕ) → CallsRead (image_run image input m) → NeverLooks p input → ⊥
 
 -- the low code of such a program may be built: it names what is there, and its global variables have room
 abbrev pub LowCodeIsBuildable : Type 0

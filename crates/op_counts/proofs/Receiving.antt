@@ -4,7 +4,7 @@ use Rattle.op_core.specs.declared.ids.TypeId.{TypeId}
 use Rattle.op_counts.proofs.Failing.{failed_counted}
 use Rattle.op_counts.proofs.Writes.{once_written}
 use Rattle.op_counts.specs.Counting.{count_in, Leads, listed, times, held}
-use Rattle.op_meaning.specs.Actions.{at_place}
+use Rattle.op_meaning.specs.Paths.{at_place}
 use Rattle.op_meaning.specs.Calls.{received}
 use Rattle.op_meaning.specs.Frames.{Program, StateOver, with_world}
 use Rattle.op_meaning.specs.Items.{to_place}

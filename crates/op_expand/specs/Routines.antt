@@ -30,13 +30,13 @@ use Rattle.op_mir.specs.declared.code.Block.{Block}
 use Rattle.op_mir.specs.declared.code.Mir.{Mir}
 use Rattle.op_mir.specs.declared.code.Routine.{Routine}
 use Rattle.op_mir.specs.declared.instruction.Instruction.{Instruction}
-use Rattle.op_mir.specs.declared.instruction.Instruction.TheVariants.{Act, Call, Jump, When, Unless, Switch, Dispatch, MakeDue, Stop, Return}
+use Rattle.op_mir.specs.declared.instruction.Instruction.TheVariants.{Act, Call, Jump, When, Unless, Switch, Dispatch, MakeDue, OpenTemporaries, EndTemporary, Stop, Return}
 use Rattle.op_mir.specs.declared.path.Root.TheVariants.{Local}
 use Rattle.op_rt_text.specs.Names.{literal, register}
 use Rattle.op_rv.specs.declared.instruction.LoadOp.TheVariants.{Lw}
 use Rattle.op_rv.specs.declared.symbol.Symbol.TheVariants.{Global}
 
--- ---- instructions, where these texts are the literals
+-- ---- instructions, where these texts are the literals; temporaries that end have no low code yet
 
 abbrev pub instruction_code : Core → Mir → Frame → (texts : List (List ℕ)) → Instruction → List LowInstruction
 instruction_code core mir frame texts (Act action landing) = action_code core frame texts action
@@ -47,6 +47,8 @@ instruction_code core mir frame texts (Unless t block) = false_code (work_of fra
 instruction_code core mir frame texts (Switch t arms) = switch_code (work_of frame.bank) (register_of frame.bank t) arms
 instruction_code core mir frame texts (Dispatch t block) = dispatch_code (work_of frame.bank) (register_of frame.bank t) block
 instruction_code core mir frame texts (MakeDue f) = due_code core frame
+instruction_code core mir frame texts (OpenTemporaries ts) = []
+instruction_code core mir frame texts (EndTemporary t) = []
 instruction_code core mir frame texts (Stop t) = stop_code core (register_of frame.bank t)
 instruction_code core mir frame texts Return = return_code core frame frame.returning
 

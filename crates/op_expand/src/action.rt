@@ -91,7 +91,7 @@ pub fn push_action(
             literals,
             *primitive,
             operands.as_slice(),
-            *to,
+            to,
         ),
     }
 }

@@ -40,6 +40,8 @@ fn push_instruction(
         Instruction::Switch { temporary, arms } => switch(code, bank, *temporary, arms.as_slice()),
         Instruction::Dispatch { temporary, block } => dispatch(code, bank, *temporary, *block),
         Instruction::MakeDue { .. } => push_due(code, core, frame),
+        Instruction::OpenTemporaries { .. } => Ok(()),
+        Instruction::EndTemporary { .. } => Ok(()),
         Instruction::Stop { status } => push_stop(alloc, code, core, bank.temporary(*status)?),
         Instruction::Return => push_return(alloc, code, core, frame),
     }

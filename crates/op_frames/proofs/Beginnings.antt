@@ -38,7 +38,7 @@ use Rattle.op_mir.specs.declared.code.Routine.{Routine}
 use Rattle.op_mir.specs.declared.ids.BlockId.{BlockId}
 use Rattle.op_mir.specs.declared.ids.LocalId.{LocalId}
 use Rattle.op_mir.specs.declared.instruction.Instruction.{Instruction}
-use Rattle.op_mir.specs.declared.instruction.Instruction.TheVariants.{Act, Call, Jump, When, Unless, Switch, Dispatch, MakeDue, Stop, Return}
+use Rattle.op_mir.specs.declared.instruction.Instruction.TheVariants.{Act, Call, Jump, When, Unless, Switch, Dispatch, MakeDue, OpenTemporaries, EndTemporary, Stop, Return}
 use Rattle.op_mir.specs.declared.path.Root.{Root}
 
 -- ---- two at most
@@ -66,6 +66,8 @@ module _ (core : Core) (r : ℕ) (frame : Frame) where
   room_two (Switch t arms) = omega arith
   room_two (Dispatch t block) = omega arith
   room_two (MakeDue f) = omega arith
+  room_two (OpenTemporaries ts) = omega arith
+  room_two (EndTemporary t) = omega arith
   room_two (Stop t) = omega arith
   room_two Return = omega arith
 
@@ -158,6 +160,8 @@ module _ (core : Core) (r : ℕ) where
   instruction_roots (Switch t arms) p roots = refl
   instruction_roots (Dispatch t block) p roots = refl
   instruction_roots (MakeDue f) p roots = refl
+  instruction_roots (OpenTemporaries ts) p roots = refl
+  instruction_roots (EndTemporary t) p roots = refl
   instruction_roots (Stop t) p roots = refl
   instruction_roots Return p roots = refl
 
@@ -231,6 +235,8 @@ module _ (core : Core) (r : ℕ) (routine : Routine) (none : roots_of routine �
   room_one (Switch t arms) p = omega arith
   room_one (Dispatch t block) p = omega arith
   room_one (MakeDue f) p = omega arith
+  room_one (OpenTemporaries ts) p = omega arith
+  room_one (EndTemporary t) p = omega arith
   room_one (Stop t) p = omega arith
   room_one Return p = omega arith
 

@@ -51,7 +51,7 @@ use Rattle.op_mir.specs.declared.ids.BlockId.{BlockId as ManagedBlock}
 use Rattle.op_mir.specs.declared.ids.LocalId.{LocalId}
 use Rattle.op_mir.specs.declared.instruction.Arm.{Arm}
 use Rattle.op_mir.specs.declared.instruction.Instruction.{Instruction}
-use Rattle.op_mir.specs.declared.instruction.Instruction.TheVariants.{Act, Call, Jump, When, Unless, Switch, Dispatch, MakeDue, Stop, Return}
+use Rattle.op_mir.specs.declared.instruction.Instruction.TheVariants.{Act, Call, Jump, When, Unless, Switch, Dispatch, MakeDue, OpenTemporaries, EndTemporary, Stop, Return}
 use Rattle.op_mir.specs.declared.path.Root.TheVariants.{Local}
 use Rattle.op_rt_text.specs.Names.{register}
 
@@ -113,6 +113,8 @@ last_ends core mir frame r texts (Unless t block) l = absurd l
 last_ends core mir frame r texts (Switch t arms) l = absurd l
 last_ends core mir frame r texts (Dispatch t block) l = absurd l
 last_ends core mir frame r texts (MakeDue f) l = absurd l
+last_ends core mir frame r texts (OpenTemporaries ts) l = absurd l
+last_ends core mir frame r texts (EndTemporary t) l = absurd l
 last_ends core mir frame r texts (Stop t) l = absurd l
 
 pub code_ends : (core : Core) (mir : Mir) (frame : Frame) (r : ℕ) (texts : List (List ℕ)) (is : List Instruction) → Leaves (map (view_instruction core r) is) → Ends (code_of core mir frame texts is)
@@ -251,5 +253,7 @@ module _ (m : Bounds) (core : Core) (r : ℕ) (routine : Routine) (n blocks : �
   instruction_fine mir texts (Switch t arms) named c room there can = switch_fine m _ (the_work m core (frame_of core r routine) n is temporaries runtime room) _ (register_below m core (frame_of core r routine) n is temporaries runtime t c) arms (arms_words arms named)
   instruction_fine mir texts (Dispatch t block) named c room there can = dispatch_fine m _ (the_work m core (frame_of core r routine) n is temporaries runtime room) _ (register_below m core (frame_of core r routine) n is temporaries runtime t (omega (arith, c))) block (omega (arith, named, fewer))
   instruction_fine mir texts (MakeDue f) named t room there can = due_fine m core (frame_of core r routine) n is temporaries runtime (omega (arith, room))
+  instruction_fine mir texts (OpenTemporaries ts) named t room there can = absurd named
+  instruction_fine mir texts (EndTemporary ended) named t room there can = absurd named
   instruction_fine mir texts (Stop t) named c room there can = stop_fine m core (frame_of core r routine) n is temporaries runtime _ (register_below m core (frame_of core r routine) n is temporaries runtime t c) can
   instruction_fine mir texts Return named t room there can = return_fine m core (frame_of core r routine) n is temporaries runtime (frame_of core r routine).returning can

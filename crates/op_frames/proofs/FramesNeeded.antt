@@ -52,7 +52,7 @@ use Rattle.op_mir.specs.declared.ids.LocalId.{LocalId}
 use Rattle.op_mir.specs.declared.instruction.Given.{Given}
 use Rattle.op_mir.specs.declared.instruction.Given.TheVariants.{ByValue, ByPlace, ByCopy}
 use Rattle.op_mir.specs.declared.instruction.Instruction.{Instruction}
-use Rattle.op_mir.specs.declared.instruction.Instruction.TheVariants.{Act, Call, Jump, When, Unless, Switch, Dispatch, MakeDue, Stop, Return}
+use Rattle.op_mir.specs.declared.instruction.Instruction.TheVariants.{Act, Call, Jump, When, Unless, Switch, Dispatch, MakeDue, OpenTemporaries, EndTemporary, Stop, Return}
 use Rattle.op_mir.specs.declared.instruction.Receiver.{Receiver}
 use Rattle.op_mir.specs.declared.instruction.Receiver.TheVariants.{Nowhere, Temporary as ToTemporary, Place}
 use Rattle.op_mir.specs.declared.path.Root.{Root}
@@ -161,6 +161,8 @@ module _ (core : Core) (wholes : List Root) where
   instruction_in r (Switch t arms) s = tt
   instruction_in r (Dispatch t block) s = tt
   instruction_in r (MakeDue f) s = tt
+  instruction_in r (OpenTemporaries ts) s = tt
+  instruction_in r (EndTemporary t) s = tt
   instruction_in r (Stop t) s = tt
   instruction_in r Return s = tt
 
@@ -294,6 +296,8 @@ module _ (core : Core) (r : ℕ) (v : LocalId) where
   instruction_kept rs (Switch t arms) e = inl e
   instruction_kept rs (Dispatch t block) e = inl e
   instruction_kept rs (MakeDue f) e = inl e
+  instruction_kept rs (OpenTemporaries ts) e = inl e
+  instruction_kept rs (EndTemporary t) e = inl e
   instruction_kept rs (Stop t) e = inl e
   instruction_kept rs Return e = inl e
 
@@ -414,6 +418,8 @@ module _ (core : Core) (mir : Mir) (r : ℕ) (x : Routine) where
     room_one (Switch t arms) e = omega arith
     room_one (Dispatch t block) e = omega arith
     room_one (MakeDue f) e = omega arith
+    room_one (OpenTemporaries ts) e = omega arith
+    room_one (EndTemporary t) e = omega arith
     room_one (Stop t) e = omega arith
     room_one Return e = omega arith
 

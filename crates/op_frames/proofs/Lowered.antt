@@ -20,15 +20,15 @@ use Rattle.op_mir.specs.declared.action.Action.TheVariants.{Constant, Load, Stor
 use Rattle.op_mir.specs.declared.action.Computation.{Computation}
 use Rattle.op_mir.specs.declared.action.Computation.TheVariants.{Arithmetic, Compare, Negate, Complement, Invert, Absolute, Odd, Upper, LowBits, Check, Neighbour, Single, Span, Combine, Contains, CheckSet}
 use Rattle.op_mir.specs.declared.action.Destination.{Destination}
-use Rattle.op_mir.specs.declared.action.Destination.TheVariants.{Unused, InTemporary}
+use Rattle.op_mir.specs.declared.action.Destination.TheVariants.{Unused, InTemporary, InNew, IntoPlace, OverPlace}
 use Rattle.op_mir.specs.declared.action.Operand.{Operand}
-use Rattle.op_mir.specs.declared.action.Operand.TheVariants.{Number, Literal}
+use Rattle.op_mir.specs.declared.action.Operand.TheVariants.{Number, Text, Literal}
 use Rattle.op_mir.specs.declared.code.Block.{Block}
 use Rattle.op_mir.specs.declared.code.Routine.{Routine}
 use Rattle.op_mir.specs.declared.instruction.Given.{Given}
 use Rattle.op_mir.specs.declared.instruction.Given.TheVariants.{ByValue, ByPlace, ByCopy}
 use Rattle.op_mir.specs.declared.instruction.Instruction.{Instruction}
-use Rattle.op_mir.specs.declared.instruction.Instruction.TheVariants.{Act, Call, Jump, When, Unless, Switch, Dispatch, MakeDue, Stop, Return}
+use Rattle.op_mir.specs.declared.instruction.Instruction.TheVariants.{Act, Call, Jump, When, Unless, Switch, Dispatch, MakeDue, OpenTemporaries, EndTemporary, Stop, Return}
 use Rattle.op_mir.specs.declared.instruction.Receiver.{Receiver}
 use Rattle.op_mir.specs.declared.instruction.Receiver.TheVariants.{Nowhere, Temporary, Place}
 use Rattle.op_mir.specs.declared.path.Path.{Path}
@@ -104,12 +104,16 @@ module _ (top room : ℕ) where
   unfolding in_operand
   operands_under [] p = tt
   operands_under (Number t ∷ os) p = (omega (arith, p.0), operands_under os p.1)
+  operands_under (Text path ∷ os) p = (path_under path p.0, operands_under os p.1)
   operands_under (Literal text ∷ os) p = (omega arith, operands_under os p.1)
 
   destination_under : (to : Destination) → DestinationBelow top (view_destination to) → in_destination to ≤ top
   unfolding in_destination
   destination_under Unused p = omega arith
   destination_under (InTemporary t) p = omega (arith, p)
+  destination_under (InNew of n) p = omega arith
+  destination_under (IntoPlace of to old) p = path_under to p
+  destination_under (OverPlace to) p = path_under to p
 
   action_under : (core : Core) (r : ℕ) (a : Action) → ActionBelow top (view_action core r a) → in_action a ≤ top
   unfolding in_action
@@ -153,6 +157,8 @@ module _ (top room : ℕ) where
   instruction_under core r (Switch t arms) p = (omega (arith, p.0), p.1)
   instruction_under core r (Dispatch t block) p = (omega (arith, p.0), p.1)
   instruction_under core r (MakeDue f) p = (omega arith, omega (arith, p))
+  instruction_under core r (OpenTemporaries ts) p = (omega arith, omega arith)
+  instruction_under core r (EndTemporary t) p = (omega arith, omega arith)
   instruction_under core r (Stop t) p = (omega (arith, p), omega arith)
   instruction_under core r Return p = (omega arith, omega arith)
 

@@ -21,7 +21,7 @@ use Rattle.op_expand.specs.Actions.{number_begun, parts_begun, begun_by, begun_c
 use Rattle.op_places.specs.Moves.{load_op, store_op, near, held_by, held, load_code, store_code, by_words, unit_of, units_in, is_short, limit_of, unit_load, unit_store, unit_code, units_code, copy_number, bytes_code, copy_code, taken_code}
 use Rattle.op_places.specs.Places.{home_of, place_code, place_of}
 use Rattle.op_primitives.proofs.PrimitiveRows.{served}
-use Rattle.op_primitives.specs.Primitives.{destination_register, operands_code, operands_passed, primitive_code, routine_of, words_in}
+use Rattle.op_primitives.specs.Primitives.{call_by, destination_register, operands_code, operands_passed, primitive_code, words_in}
 use Rattle.op_places.specs.declared.frame.Frame.{Frame}
 use Rattle.op_places.specs.declared.homes.Home.{Home}
 use Rattle.op_places.specs.declared.homes.Home.TheVariants.{Held, Stored, Shared}
@@ -48,9 +48,9 @@ use Rattle.op_mir.specs.declared.action.Action.TheVariants.{Constant, Load, Stor
 use Rattle.op_mir.specs.declared.action.Computation.{Computation}
 use Rattle.op_mir.specs.declared.action.Computation.TheVariants.{Arithmetic, Compare, Negate, Complement, Invert, Absolute, Odd, Upper, LowBits, Check, Neighbour, Single, Span, Combine, Contains, CheckSet}
 use Rattle.op_mir.specs.declared.action.Destination.{Destination}
-use Rattle.op_mir.specs.declared.action.Destination.TheVariants.{Unused, InTemporary}
+use Rattle.op_mir.specs.declared.action.Destination.TheVariants.{Unused, InTemporary, InNew, IntoPlace, OverPlace}
 use Rattle.op_mir.specs.declared.action.Operand.{Operand}
-use Rattle.op_mir.specs.declared.action.Operand.TheVariants.{Number, Literal}
+use Rattle.op_mir.specs.declared.action.Operand.TheVariants.{Number, Text, Literal}
 use Rattle.op_mir.specs.declared.ids.LocalId.{LocalId}
 use Rattle.op_mir.specs.declared.ids.TemporaryId.{TemporaryId}
 use Rattle.op_mir.specs.declared.path.Path.{Path}
@@ -240,15 +240,17 @@ module _ (m : Bounds) (core : Core) (frame : Frame) (n : ℕ) (is : IsFrame m co
 
   -- ---- primitives
 
-  words_passed : (used : ℕ) (os : List Operand) → length (operands_passed frame used os) ≡ words_in (map sort_of (map view_operand os))
-  words_passed used [] = refl
-  words_passed used (Number t ∷ os) = ap suc (words_passed (used + 0) os)
-  words_passed used (Literal text ∷ os) = ap (λ k. suc (suc k)) (words_passed (used + 2) os)
+  words_passed : (used : ℕ) (os : List Operand) → EachOperand IsNamedOperand (map view_operand os) → length (operands_passed frame used os) ≡ words_in (map sort_of (map view_operand os))
+  words_passed used [] named = refl
+  words_passed used (Number t ∷ os) named = ap suc (words_passed (used + 0) os named.1)
+  words_passed used (Text path ∷ os) named = absurd named.0
+  words_passed used (Literal text ∷ os) named = ap (λ k. suc (suc k)) (words_passed (used + 2) os named.1)
 
   operands_fine : (texts : List (List ℕ)) (used : ℕ) (os : List Operand) → EachOperand IsNamedOperand (map view_operand os) → frame.bank.scratch + used + operands_room (map view_operand os) ≤ m.registers → Every (λ text. number_of texts text < m.low.counts.literals) (operands_literals os) → AreFine m (operands_code frame texts used os)
   unfolding has_symbol
   operands_fine texts used [] named room there = tt
   operands_fine texts used (Number t ∷ os) named room there = operands_fine texts (used + 0) os named.1 (omega (arith, room)) there
+  operands_fine texts used (Text path ∷ os) named room there = absurd named.0
   operands_fine texts used (Literal text ∷ os) named room there =
       ((omega (arith, room), lt-ltb (number_of texts text) m.low.counts.literals there.0), ((omega (arith, room), named.0), operands_fine texts (used + 2) os named.1 (omega (arith, room)) there.1))
 
@@ -256,20 +258,26 @@ module _ (m : Bounds) (core : Core) (frame : Frame) (n : ℕ) (is : IsFrame m co
   unfolding in_operand
   passed_below used [] low room = tt
   passed_below used (Number t ∷ os) low room = (register_below t low.0, passed_below (used + 0) os low.1 (omega (arith, room)))
+  passed_below used (Text path ∷ os) low room = passed_below (used + 0) os low.1 (omega (arith, room))
   passed_below used (Literal text ∷ os) low room = (omega (arith, room), (omega (arith, room), passed_below (used + 2) os low.1 (omega (arith, room))))
 
   destination_below : (to : Destination) → in_destination to ≤ n → frame.bank.scratch + 1 ≤ m.registers → Below m (destination_register frame to)
   unfolding in_destination
   destination_below Unused low room = omega (arith, room)
   destination_below (InTemporary t) low room = register_below t low
+  destination_below (InNew of k) low room = omega (arith, room)
+  destination_below (IntoPlace of to old) low room = omega (arith, room)
+  destination_below (OverPlace to) low room = omega (arith, room)
 
   pub primitive_fine : (texts : List (List ℕ)) (p : Primitive) (os : List Operand) (to : Destination) → IsApplied IsNamedOperand p (map view_operand os) (view_destination to) → max (most_of in_operand os) (in_destination to) ≤ n → frame.bank.scratch + (1 + operands_room (map view_operand os)) ≤ m.registers → Every (λ text. number_of texts text < m.low.counts.literals) (operands_literals os) → AreFine m (primitive_code frame texts p os to)
   primitive_fine texts p os to named t room there =
       let low = most_each in_operand os n (omega (arith, t)) in
-      let number = words_passed 0 os ∙ ap words_in named.sorts in
+      let number = words_passed 0 os named.each ∙ ap words_in named.sorts in
+      let serving = served p named.nothing in
       let less : frame.bank.scratch + 0 + operands_room (map view_operand os) ≤ m.registers = omega (arith, room) in
-      joined m _ _ (operands_fine texts 0 os named.each less there)
-      ((passed_below 0 os low less, destination_below to (omega (arith, t)) (omega (arith, room)), subst (λ k. takes (slice_get m.low.routines (routine_of p)) k ≡ true) (sym number) (runtime_takes (routine_of p) (words_in (signature p)) (served p).takes_them), refl), tt)
+      subst (λ routine. AreFine m (call_by frame texts routine os to)) (sym serving.is)
+      (joined m _ _ (operands_fine texts 0 os named.each less there)
+      ((passed_below 0 os low less, destination_below to (omega (arith, t)) (omega (arith, room)), subst (λ k. takes (slice_get m.low.routines serving.routine) k ≡ true) (sym number) (runtime_takes serving.routine (words_in (signature p)) serving.takes_them), refl), tt))
 
   -- ---- computations
 

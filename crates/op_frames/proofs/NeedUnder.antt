@@ -49,13 +49,13 @@ use Rattle.op_mir.specs.declared.action.Action.TheVariants.{Constant, Load, Stor
 use Rattle.op_mir.specs.declared.action.Computation.{Computation}
 use Rattle.op_mir.specs.declared.action.Computation.TheVariants.{Arithmetic, Compare, Negate, Complement, Invert, Absolute, Odd, Upper, LowBits, Check, Neighbour, Single, Span, Combine, Contains, CheckSet}
 use Rattle.op_mir.specs.declared.action.Operand.{Operand}
-use Rattle.op_mir.specs.declared.action.Operand.TheVariants.{Number, Literal}
+use Rattle.op_mir.specs.declared.action.Operand.TheVariants.{Number, Text, Literal}
 use Rattle.op_mir.specs.declared.code.Block.{Block}
 use Rattle.op_mir.specs.declared.code.Routine.{Routine}
 use Rattle.op_mir.specs.declared.instruction.Given.{Given}
 use Rattle.op_mir.specs.declared.instruction.Given.TheVariants.{ByValue, ByPlace, ByCopy}
 use Rattle.op_mir.specs.declared.instruction.Instruction.{Instruction}
-use Rattle.op_mir.specs.declared.instruction.Instruction.TheVariants.{Act, Call, Jump, When, Unless, Switch, Dispatch, MakeDue, Stop, Return}
+use Rattle.op_mir.specs.declared.instruction.Instruction.TheVariants.{Act, Call, Jump, When, Unless, Switch, Dispatch, MakeDue, OpenTemporaries, EndTemporary, Stop, Return}
 use Rattle.op_mir.specs.declared.instruction.Receiver.{Receiver}
 use Rattle.op_mir.specs.declared.instruction.Receiver.TheVariants.{Nowhere, Temporary as ToTemporary, Place}
 use Rattle.op_mir.specs.declared.path.Path.{Path}
@@ -87,6 +87,7 @@ computation_as (CheckSet all to a) = refl
 operand_as : (o : Operand) → operand_words o ≡ operand_room (view_operand o)
 unfolding operand_words
 operand_as (Number t) = refl
+operand_as (Text path) = path_as path
 operand_as (Literal text) = refl
 
 operands_as : (os : List Operand) → sum_by operand_words os ≡ operands_room (map view_operand os)
@@ -132,6 +133,8 @@ module _ (core : Core) (r : ℕ) where
   instruction_as (Switch t arms) = refl
   instruction_as (Dispatch t block) = refl
   instruction_as (MakeDue f) = refl
+  instruction_as (OpenTemporaries ts) = refl
+  instruction_as (EndTemporary t) = refl
   instruction_as (Stop t) = refl
   instruction_as Return = refl
 
@@ -204,6 +207,8 @@ module _ (core : Core) where
     instruction_covered r (Switch t arms) c = tt
     instruction_covered r (Dispatch t block) c = tt
     instruction_covered r (MakeDue f) c = tt
+    instruction_covered r (OpenTemporaries ts) c = tt
+    instruction_covered r (EndTemporary t) c = tt
     instruction_covered r (Stop t) c = tt
     instruction_covered r Return c = tt
 

@@ -48,7 +48,7 @@ use Rattle.op_mir.specs.declared.code.Routine.{Routine}
 use Rattle.op_mir.specs.declared.ids.BlockId.{BlockId}
 use Rattle.op_mir.specs.declared.ids.LocalId.{LocalId}
 use Rattle.op_mir.specs.declared.instruction.Instruction.{Instruction}
-use Rattle.op_mir.specs.declared.instruction.Instruction.TheVariants.{Act, Call, Jump, When, Unless, Switch, Dispatch, MakeDue, Stop, Return}
+use Rattle.op_mir.specs.declared.instruction.Instruction.TheVariants.{Act, Call, Jump, When, Unless, Switch, Dispatch, MakeDue, OpenTemporaries, EndTemporary, Stop, Return}
 use Rattle.op_mir.specs.declared.path.Root.TheVariants.{Local}
 use Rattle.op_rt_text.specs.Runtime.{runtime_routines}
 
@@ -109,6 +109,8 @@ module _ (m : Bounds) (core : Core) (r : ℕ) (routine : Routine) (n blocks most
   can_do (Switch t arms) named less = tt
   can_do (Dispatch t block) named less = tt
   can_do (MakeDue f) named less = tt
+  can_do (OpenTemporaries ts) named less = absurd named
+  can_do (EndTemporary t) named less = absurd named
   can_do (Stop t) named less = ends
   can_do Return named less = can_return (frame_of core r routine).returning
 

@@ -25,7 +25,7 @@ use Rattle.op_mir.specs.declared.code.Routine.{Routine}
 use Rattle.op_mir.specs.declared.instruction.Given.{Given}
 use Rattle.op_mir.specs.declared.instruction.Given.TheVariants.{ByValue, ByPlace, ByCopy}
 use Rattle.op_mir.specs.declared.instruction.Instruction.{Instruction}
-use Rattle.op_mir.specs.declared.instruction.Instruction.TheVariants.{Act, Call, Jump, When, Unless, Switch, Dispatch, MakeDue, Stop, Return}
+use Rattle.op_mir.specs.declared.instruction.Instruction.TheVariants.{Act, Call, Jump, When, Unless, Switch, Dispatch, MakeDue, OpenTemporaries, EndTemporary, Stop, Return}
 use Rattle.op_mir.specs.declared.instruction.Receiver.{Receiver}
 use Rattle.op_mir.specs.declared.instruction.Receiver.TheVariants.{Nowhere, Temporary as ToTemporary, Place}
 use Rattle.op_mir.specs.declared.path.Root.{Root}
@@ -226,6 +226,8 @@ module _ (core : Core) where
   instruction_good r wholes rs (Switch t arms) g c = g
   instruction_good r wholes rs (Dispatch t block) g c = g
   instruction_good r wholes rs (MakeDue f) g c = g
+  instruction_good r wholes rs (OpenTemporaries ts) g c = g
+  instruction_good r wholes rs (EndTemporary t) g c = g
   instruction_good r wholes rs (Stop t) g c = g
   instruction_good r wholes rs Return g c = g
 

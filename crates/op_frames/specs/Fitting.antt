@@ -30,7 +30,7 @@ use Rattle.op_mir.specs.declared.code.Mir.{Mir}
 use Rattle.op_mir.specs.declared.code.Routine.{Routine}
 use Rattle.op_mir.specs.declared.ids.LocalId.{LocalId}
 use Rattle.op_mir.specs.declared.instruction.Instruction.{Instruction}
-use Rattle.op_mir.specs.declared.instruction.Instruction.TheVariants.{Act, Call, Jump, When, Unless, Switch, Dispatch, MakeDue, Stop, Return}
+use Rattle.op_mir.specs.declared.instruction.Instruction.TheVariants.{Act, Call, Jump, When, Unless, Switch, Dispatch, MakeDue, OpenTemporaries, EndTemporary, Stop, Return}
 
 -- ---- scratch registers
 
@@ -69,6 +69,8 @@ begin_room core r frame (Unless t block) = 0
 begin_room core r frame (Switch t arms) = 0
 begin_room core r frame (Dispatch t block) = 0
 begin_room core r frame (MakeDue f) = 0
+begin_room core r frame (OpenTemporaries ts) = 0
+begin_room core r frame (EndTemporary t) = 0
 begin_room core r frame (Stop t) = 0
 begin_room core r frame Return = 0
 

@@ -41,8 +41,8 @@ ArmsOf blocks no_cases [] = Unit {0}
 ArmsOf blocks (cases labels items others) (arm ∷ arms) = (arm.labels ≡ labels) × (0 < arm.block) × (arm.block < blocks) × ArmsOf blocks others arms
 ArmsOf blocks _ _ = ⊥
 
--- Of the instructions of items, where there are so many blocks. No branch leads to the first one. Items of exceptions, of instances and of temporaries that have to be ended
--- have no code.
+-- Of the instructions of items, where there are so many blocks. No branch leads to the first one. Items of exceptions and of instances have no code, and
+-- temporaries that have to be ended no low code.
 abbrev mutual
   pub AreMade : (Instr → Type 0) → ℕ → Items → Type 0
   AreMade Q blocks none = Unit {0}

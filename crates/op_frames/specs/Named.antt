@@ -10,7 +10,7 @@ use Rattle.op_places.specs.Frames.{parameters_of}
 use Rattle.op_frames.specs.Made.{Every}
 use Rattle.op_meaning.specs.Actions.{Action, constant, load, store, copy, look, begin_with, pick, arithmetic, compare, negate, complement, invert, absolute, odd, upper, low_bits, check, neighbour, single, span, combine, contains, check_set, primitive}
 use Rattle.op_meaning.specs.Items.{Given, by_value, by_place, by_copy, Receiver, nowhere, to_temp, to_place}
-use Rattle.op_meaning.specs.Primitives.{IsApplied, Operand, from_temp, literal_text}
+use Rattle.op_meaning.specs.Primitives.{IsApplied, Operand, from_temp, literal_text, text_at}
 use Rattle.op_meaning.specs.Shapes.{shape_of}
 use Rattle.op_meaning.specs.Paths.{Path, Root, in_global, in_local, through, in_temporary, Step, field, element}
 use Rattle.op_mir.specs.Code.{Arm, Instr, do_act, do_call, jump, when, unless, switch, dispatch, make_due, open_temporaries, end_temporary, stop, ret}
@@ -42,7 +42,8 @@ IsNamedPath core p = IsNamedRoot core p.root × Every IsNamedStep p.steps × (fi
 
 abbrev pub IsNamedOperand : Operand → Type 0
 IsNamedOperand (from_temp t) = Unit {0}
-IsNamedOperand (literal_text text) = length text < 2 ^ 32
+IsNamedOperand (text_at path) = ⊥
+IsNamedOperand (literal_text bytes) = length bytes < 2 ^ 32
 
 abbrev pub IsNamedAction : Core → Action → Type 0
 IsNamedAction core (constant to n) = FitsSigned w32 n

@@ -3,7 +3,7 @@ use Rattle.std.specs.Prelude.{ℕ, ◌+◌, ◌*◌, List, [], ◌∷◌, length
 use Rattle.op_meaning.specs.Actions.{Action, constant, load, store, copy, look, begin_with, pick, arithmetic, compare, negate, complement, invert, absolute, odd, upper, low_bits, check, neighbour, single, span, combine, contains, check_set, primitive}
 use Rattle.op_meaning.specs.Items.{Given, by_value, by_place, by_copy, Receiver, nowhere, to_temp, to_place}
 use Rattle.op_meaning.specs.Paths.{Path}
-use Rattle.op_meaning.specs.Primitives.{Operand, from_temp, literal_text}
+use Rattle.op_meaning.specs.Primitives.{Operand, from_temp, literal_text, text_at}
 use Rattle.op_mir.specs.Code.{Instr, do_act, do_call, jump, when, unless, switch, dispatch, make_due, open_temporaries, end_temporary, stop, ret}
 
 -- one has the address of the root; an element takes one and another one for its index, and a distance that is too large takes one
@@ -12,7 +12,8 @@ path_room p = 1 + 2 * length p.steps
 
 abbrev pub operand_room : Operand → ℕ
 operand_room (from_temp t) = 0
-operand_room (literal_text text) = 2
+operand_room (text_at path) = path_room path
+operand_room (literal_text bytes) = 2
 
 abbrev pub operands_room : List Operand → ℕ
 operands_room [] = 0

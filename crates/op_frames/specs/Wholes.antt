@@ -52,6 +52,7 @@ ReceiverIn wholes (to_place of p) = IsWholeIn wholes p.root
 ReceiverIn wholes nowhere = Unit {0}
 ReceiverIn wholes (to_temp t) = Unit {0}
 
+-- temporaries that end have no low code yet that comes to them
 abbrev pub AreWholesIn : List ManagedRoot → Instr → Type 0
 AreWholesIn wholes (do_act a landing) = ActionIn wholes a
 AreWholesIn wholes (do_call r given receiver landing) = Every (GivenIn wholes) given × ReceiverIn wholes receiver
@@ -61,7 +62,7 @@ AreWholesIn wholes (unless t k) = Unit {0}
 AreWholesIn wholes (switch t arms) = Unit {0}
 AreWholesIn wholes (dispatch t k) = Unit {0}
 AreWholesIn wholes (make_due f) = Unit {0}
-AreWholesIn wholes (open_temporaries ts) = ⊥
-AreWholesIn wholes (end_temporary t) = ⊥
+AreWholesIn wholes (open_temporaries ts) = Unit {0}
+AreWholesIn wholes (end_temporary t) = Unit {0}
 AreWholesIn wholes (stop t) = Unit {0}
 AreWholesIn wholes ret = Unit {0}

@@ -5,7 +5,7 @@ use Rattle.op_frames.specs.Scratch.{action_room, givens_room, receiver_room}
 use Rattle.op_meaning.specs.Actions.{Action, constant, load, store, copy, look, begin_with, pick, arithmetic, compare, negate, complement, invert, absolute, odd, upper, low_bits, check, neighbour, single, span, combine, contains, check_set, primitive}
 use Rattle.op_meaning.specs.Items.{Given, by_value, by_place, by_copy, Receiver, nowhere, to_temp, to_place}
 use Rattle.op_meaning.specs.Paths.{Step, field, element}
-use Rattle.op_meaning.specs.Primitives.{Destination, EachOperand, Operand, from_temp, in_temp, literal_text, unused}
+use Rattle.op_meaning.specs.Primitives.{Destination, EachOperand, Operand, from_temp, in_new, in_temp, into_place, literal_text, over_place, text_at, unused}
 use Rattle.op_mir.specs.Code.{Instr, do_act, do_call, jump, when, unless, switch, dispatch, make_due, open_temporaries, end_temporary, stop, ret, Arm}
 
 abbrev pub StepsBelow : ℕ → List Step → Type 0
@@ -21,11 +21,15 @@ ThreeBelow top a b c = (a < top) × (b < top) × (c < top)
 
 abbrev pub OperandBelow : ℕ → Operand → Type 0
 OperandBelow top (from_temp t) = t < top
-OperandBelow top (literal_text text) = Unit {0}
+OperandBelow top (text_at p) = StepsBelow top p.steps
+OperandBelow top (literal_text bytes) = Unit {0}
 
 abbrev pub DestinationBelow : ℕ → Destination → Type 0
 DestinationBelow top unused = Unit {0}
 DestinationBelow top (in_temp t) = t < top
+DestinationBelow top (in_new of n) = Unit {0}
+DestinationBelow top (into_place of p old) = StepsBelow top p.steps
+DestinationBelow top (over_place p) = StepsBelow top p.steps
 
 abbrev pub ActionBelow : ℕ → Action → Type 0
 ActionBelow top (constant to n) = to < top

@@ -115,6 +115,21 @@ positive n some = by_order (cases_lt 0 n)
 row_same : (memory after : ℕ → ℕ) (t : ℕ) → 1 ≤ t → t < 65536 → KeepsControl memory after → word_at after (row_of t) ≡ word_at memory (row_of t)
 row_same memory after t some less same = word_at-same memory after (row_of t) (λ x from before. same x (omega arith) (omega arith))
 
+-- where the same heap stays
+pub table_same : (memory after : ℕ → ℕ) (h : Heap) → KeepsControl memory after → TableLies memory h → TableLies after h
+table_same memory after h same was =
+    let most = was.slots.slots.most in
+    record {
+      slots = slots_within memory after h same was.slots;
+      instances = was.instances;
+      leads = λ name b there.
+          let issued_before = (was.instances.issued name b there).0 in
+          row_same memory after b.slot (positive b.slot there.slotted) (omega arith) same ∙ was.leads name b there;
+      ends = λ s there.
+          let issued_before = there.issued in
+          row_same memory after s there.some (omega arith) same ∙ was.ends s there;
+    }
+
 other_row_same : (memory after : ℕ → ℕ) (s t : ℕ) → t ≢ s → 1 ≤ t → t < 65536 → KeepsRows s memory after → word_at after (row_of t) ≡ word_at memory (row_of t)
 other_row_same memory after s t differ some less kept = word_at-same memory after (row_of t) (λ x from before. kept x (λ at under. omega arith, λ at under. omega arith, beside x from before (cases_lt t s) (cases_lt s t)) (omega arith) (omega arith))
   where

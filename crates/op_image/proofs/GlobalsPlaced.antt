@@ -1,5 +1,5 @@
 -- The global variables of a linked image.
-use Rattle.std.proofs.Common.{◌≡◌, ◌≢◌, ℕ, zero, suc, ◌+◌, ◌-◌, ◌%◌, ◌<◌, ◌≤◌, inl, inr, le_refl, true, Some, List, [], ◌∷◌, get_or, slice_get, refl, ap, sym, subst, ◌∙◌, arith}
+use Rattle.std.proofs.Common.{◌≡◌, ◌≢◌, ℕ, zero, suc, ◌+◌, ◌-◌, ◌*◌, ◌%◌, ◌<◌, ◌≤◌, inl, inr, le_refl, true, Some, List, [], ◌∷◌, get_or, slice_get, refl, ap, sym, subst, ◌∙◌, arith}
 use Rattle.std.proofs.lemmas.List.{get_or_past}
 use Rattle.op_layout.specs.declared.layout.Layout.{Layout}
 use Rattle.op_link.proofs.GlobalPlaces.{Filled, address_is, global_aligned, global_begins, global_within, globals_apart, globals_least, lies_between, offsets_from}
@@ -8,7 +8,7 @@ use Rattle.op_link.specs.Code.{symbol_address}
 use Rattle.op_link.specs.Image.{regions_in}
 use Rattle.op_link.specs.Linking.{addresses_of, linked_size, sizes_of}
 use Rattle.op_link.specs.Loaded.{HasCode, IsLoaded, addresses_by, linked_sizes, sizes_by}
-use Rattle.op_link.specs.Memory.{LieApart, are_in_range, global_addresses, globals_address, globals_size, initial_bytes, initial_size, segments_of, variable_size, zero_size}
+use Rattle.op_link.specs.Memory.{LieApart, are_in_range, global_addresses, globals_address, globals_size, heap_size, initial_bytes, initial_size, segments_of, variable_size, zero_size}
 use Rattle.op_link.specs.Region.{byte_in}
 use Rattle.op_link.specs.declared.memory_map.Settings.{Settings}
 use Rattle.op_low.specs.declared.code.Low.{Low}
@@ -17,8 +17,10 @@ use Rattle.op_rv.specs.declared.objects.GlobalVariable.{GlobalVariable}
 use Rattle.op_rv.specs.declared.symbol.GlobalId.{GlobalId}
 use Rattle.op_rv.specs.declared.symbol.Symbol.TheVariants.{Global}
 use Rattle.op_select.specs.Selection.{select_of}
+use Rattle.op_image.proofs.HeapBegun.{begun_kept}
 use Rattle.op_image.proofs.Mapped.{byte_of_globals, globals_end, globals_readable, globals_writable, stack_lies}
 use Rattle.op_image.proofs.Placed.{few_zeros, knows, size_within}
+use Rattle.op_image.specs.Beginning.{begun}
 use Rattle.op_image.specs.Building.{is_buildable}
 use Rattle.op_image.specs.Meaning.{linked_code, or_zero, setting_of}
 use Rattle.op_image.specs.Means.{GlobalsStand, StandsGlobal}
@@ -78,7 +80,7 @@ module _ (low : Low) (layout : Layout) (settings : Settings) (image : List ℕ) 
   unfolding globals_address
   from_aligned = omega arith
 
-  stands_at : (k : ℕ) (global : GlobalVariable) → slice_get low.globals k ≡ Some global → StandsGlobal (setting_of low layout settings image) image (address_at k) global
+  stands_at : (k : ℕ) (global : GlobalVariable) → slice_get low.globals k ≡ Some global → StandsGlobal (setting_of low layout settings image) (begun settings image) (address_at k) global
   unfolding offset_at select_of
   stands_at k global is =
       let sizes = linked_sizes (select_of low) layout settings in
@@ -98,8 +100,10 @@ module _ (low : Low) (layout : Layout) (settings : Settings) (image : List ℕ) 
       let aligned = global_aligned 0 (initial_size low.globals) low.globals k global is in
       let end = globals_end image sizes settings code loaded words_known ranged size few in
       let stack = (stack_lies settings ranged).from in
-      let begins : (j : ℕ) → j < variable_size global → byte_in (regions_in image) (at + j) ≡ get_or global.initial j 0 =
-      λ j before. ap (λ a. byte_in (regions_in image) (a + j)) there ∙ global_begins (byte_in (regions_in image)) from 0 (initial_size low.globals) low.globals k global j filled is before in
+      let begins : (j : ℕ) → j < variable_size global → begun settings image (at + j) ≡ get_or global.initial j 0 =
+      λ j before.
+      begun_kept (byte_in (regions_in image)) (heap_size settings) (1024 * settings.stack) (at + j) (λ first early. omega arith) (λ first early. omega arith)
+      ∙ ap (λ a. byte_in (regions_in image) (a + j)) there ∙ global_begins (byte_in (regions_in image)) from 0 (initial_size low.globals) low.globals k global j filled is before in
       record {
         words = λ some four. let even = aligned.words some four in omega arith;
         halves = λ some two. let even = aligned.halves some two in omega arith;
@@ -107,10 +111,10 @@ module _ (low : Low) (layout : Layout) (settings : Settings) (image : List ℕ) 
         writable = λ x first before. globals_writable image sizes settings code loaded words_known ranged size few (initial_bytes low.globals) has.globals long x (omega arith) (omega arith);
         before_control = omega arith;
         below = omega arith;
-        stands = bytes_there (byte_in (regions_in image)) at global.initial (λ j before. begins j (omega arith));
+        stands = bytes_there (begun settings image) at global.initial (λ j before. begins j (omega arith));
         zeros = λ x behind before.
             let place : x ≡ at + (x - at) = omega arith in
-            ap (byte_in (regions_in image)) place ∙ begins (x - at) (omega arith) ∙ get_or_past global.initial (x - at) 0 (omega arith);
+            ap (begun settings image) place ∙ begins (x - at) (omega arith) ∙ get_or_past global.initial (x - at) 0 (omega arith);
       }
 
   apart_at : (i j : ℕ) (a b : GlobalVariable) → i ≢ j → slice_get low.globals i ≡ Some a → slice_get low.globals j ≡ Some b → LieApart (address_at i) (variable_size a) (address_at j) (variable_size b)
@@ -121,10 +125,10 @@ module _ (low : Low) (layout : Layout) (settings : Settings) (image : List ℕ) 
       by at_a at_b (inl before) = inl (omega arith)
       by at_a at_b (inr behind) = inr (omega arith)
 
-  pub globals_stand : GlobalsStand (setting_of low layout settings image) image
+  pub globals_stand : GlobalsStand (setting_of low layout settings image) (begun settings image)
   globals_stand =
       record {
-        each = λ id global is. subst (λ at. StandsGlobal (setting_of low layout settings image) image at global) (sym (global_address id)) (stands_at id.0 global is);
+        each = λ id global is. subst (λ at. StandsGlobal (setting_of low layout settings image) (begun settings image) at global) (sym (global_address id)) (stands_at id.0 global is);
         apart = λ one other a b differ is_a is_b.
             subst (λ at. LieApart at (variable_size a) ((setting_of low layout settings image).placing.address (Global other)) (variable_size b)) (sym (global_address one))
             (subst (λ at. LieApart (address_at one.0) (variable_size a) at (variable_size b)) (sym (global_address other)) (apart_at one.0 other.0 a b differ is_a is_b));

@@ -1,9 +1,12 @@
 pub mod Counting
 pub mod Expanding
 pub mod GlobalsPlaced
+pub mod Guarding
+pub mod HeapBegun
 pub mod Linkable
 pub mod Mapped
 pub mod Meant
+pub mod Narrowing
 pub mod Placed
 pub mod Places
 pub mod Standing

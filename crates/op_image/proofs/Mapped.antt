@@ -13,12 +13,12 @@ use Rattle.op_link.specs.Code.{words_of}
 use Rattle.op_link.specs.Image.{region_in, regions_in}
 use Rattle.op_link.specs.Linking.{linked_size_of}
 use Rattle.op_link.specs.Loaded.{Decodes, IsLoaded}
-use Rattle.op_link.specs.Memory.{are_in_range, code_address, constants_address, control_address, empty, filled, globals_address, segments_of, stack_address, stack_size}
+use Rattle.op_link.specs.Memory.{are_in_range, code_address, constants_address, control_address, empty, filled, globals_address, heap_address, heap_size, segments_of, stack_address, stack_size}
 use Rattle.op_link.specs.Region.{Region, byte_in, covers, executable_in, range_of, readable_in, region_at, writable_in}
 use Rattle.op_link.specs.declared.memory_map.Settings.{Settings}
 use Rattle.op_link.specs.declared.memory_map.Sizes.{Sizes}
 use Rattle.op_link.specs.declared.table.Segment.{Segment}
-use Rattle.op_rv.proofs.Memory.{bytes_of-word, get_or-zeros}
+use Rattle.op_rv.proofs.Memory.{bytes_of-word, get_or-zeros, zeros_get}
 use Rattle.op_rv.proofs.Table.{word_of-lt}
 use Rattle.op_rv.specs.Decoding.{instr_at}
 use Rattle.op_rv.specs.Encoding.{fits, word_of}
@@ -175,8 +175,8 @@ module _ (image : List ℕ) (sizes : Sizes) (settings : Settings) (code : List I
       ∙ past_segment image (filled code_address sizes.code sizes.code 5) (map (region_in image) (drop 1 (segments_of sizes settings))) a (omega arith) (omega arith)
       ∙ past_segment image (filled (constants_address sizes) sizes.constants sizes.constants 4) (map (region_in image) (drop 2 (segments_of sizes settings))) a (omega arith) (omega arith)
       ∙ past_segment image (filled (globals_address sizes) sizes.initial (sizes.initial + sizes.zeros) 6) (map (region_in image) (drop 3 (segments_of sizes settings))) a (omega arith) (omega arith)
-      ∙ past_segment image (empty 0x08000000 524312) (map (region_in image) (drop 4 (segments_of sizes settings))) a (omega arith) (omega arith)
-      ∙ past_segment image (empty 0x10000000 (1024 * settings.heap)) (map (region_in image) (drop 5 (segments_of sizes settings))) a (omega arith) (omega arith)
+      ∙ past_segment image (empty control_address 524312) (map (region_in image) (drop 4 (segments_of sizes settings))) a (omega arith) (omega arith)
+      ∙ past_segment image (empty heap_address (heap_size settings)) (map (region_in image) (drop 5 (segments_of sizes settings))) a (omega arith) (omega arith)
       ∙ in_empty image (stack_address settings) (stack_size settings) a [] lower (omega arith)
 
   pub stack_readable : (a : ℕ) → stack_address settings ≤ a → a < 0x70000000 → readable_in (regions_in image) a ≡ true
@@ -186,6 +186,59 @@ module _ (image : List ℕ) (sizes : Sizes) (settings : Settings) (code : List I
   pub stack_writable : (a : ℕ) → stack_address settings ≤ a → a < 0x70000000 → writable_in (regions_in image) a ≡ true
   unfolding writable_in stack_region
   stack_writable a lower upper = ap (λ found. option_map_or (λ (region : Region). region.writable) found false) (in_stack a lower upper)
+
+  -- ---- the control region and the heap, which begin as zeros
+
+  control_region : Region
+  control_region = region_in image (empty control_address 524312)
+
+  in_control : (a : ℕ) → control_address ≤ a → a < control_address + 524312 → region_at (regions_in image) a ≡ Some control_region
+  unfolding segments_of control_region constants_address globals_address
+  in_control a lower upper =
+      ap (λ rs. region_at rs a) regions_are
+      ∙ past_segment image (filled code_address sizes.code sizes.code 5) (map (region_in image) (drop 1 (segments_of sizes settings))) a (omega arith) (omega arith)
+      ∙ past_segment image (filled (constants_address sizes) sizes.constants sizes.constants 4) (map (region_in image) (drop 2 (segments_of sizes settings))) a (omega arith) (omega arith)
+      ∙ past_segment image (filled (globals_address sizes) sizes.initial (sizes.initial + sizes.zeros) 6) (map (region_in image) (drop 3 (segments_of sizes settings))) a (omega arith) (omega arith)
+      ∙ in_empty image control_address 524312 a (map (region_in image) (drop 4 (segments_of sizes settings))) lower upper
+
+  heap_region : Region
+  heap_region = region_in image (empty heap_address (heap_size settings))
+
+  in_heap : (a : ℕ) → heap_address ≤ a → a < heap_address + heap_size settings → region_at (regions_in image) a ≡ Some heap_region
+  unfolding segments_of heap_region constants_address globals_address
+  in_heap a lower upper =
+      ap (λ rs. region_at rs a) regions_are
+      ∙ past_segment image (filled code_address sizes.code sizes.code 5) (map (region_in image) (drop 1 (segments_of sizes settings))) a (omega arith) (omega arith)
+      ∙ past_segment image (filled (constants_address sizes) sizes.constants sizes.constants 4) (map (region_in image) (drop 2 (segments_of sizes settings))) a (omega arith) (omega arith)
+      ∙ past_segment image (filled (globals_address sizes) sizes.initial (sizes.initial + sizes.zeros) 6) (map (region_in image) (drop 3 (segments_of sizes settings))) a (omega arith) (omega arith)
+      ∙ past_segment image (empty control_address 524312) (map (region_in image) (drop 4 (segments_of sizes settings))) a (omega arith) (omega arith)
+      ∙ in_empty image heap_address (heap_size settings) a (map (region_in image) (drop 5 (segments_of sizes settings))) lower upper
+
+  pub control_readable : (a : ℕ) → control_address ≤ a → a < control_address + 524312 → readable_in (regions_in image) a ≡ true
+  unfolding readable_in control_region
+  control_readable a lower upper = ap (λ found. option_map_or (λ (region : Region). region.readable) found false) (in_control a lower upper)
+
+  pub control_writable : (a : ℕ) → control_address ≤ a → a < control_address + 524312 → writable_in (regions_in image) a ≡ true
+  unfolding writable_in control_region
+  control_writable a lower upper = ap (λ found. option_map_or (λ (region : Region). region.writable) found false) (in_control a lower upper)
+
+  pub heap_readable : (a : ℕ) → heap_address ≤ a → a < heap_address + heap_size settings → readable_in (regions_in image) a ≡ true
+  unfolding readable_in heap_region
+  heap_readable a lower upper = ap (λ found. option_map_or (λ (region : Region). region.readable) found false) (in_heap a lower upper)
+
+  pub heap_writable : (a : ℕ) → heap_address ≤ a → a < heap_address + heap_size settings → writable_in (regions_in image) a ≡ true
+  unfolding writable_in heap_region
+  heap_writable a lower upper = ap (λ found. option_map_or (λ (region : Region). region.writable) found false) (in_heap a lower upper)
+
+  pub control_zero : (a : ℕ) → control_address ≤ a → a < control_address + 524312 → byte_in (regions_in image) a ≡ 0
+  unfolding byte_in control_region
+  control_zero a lower upper =
+      ap (λ found. option_map_or (λ (region : Region). get_or region.bytes (a - region.base) 0) found 0) (in_control a lower upper) ∙ zeros_get 524312 (a - control_address)
+
+  pub heap_zero : (a : ℕ) → heap_address ≤ a → a < heap_address + heap_size settings → byte_in (regions_in image) a ≡ 0
+  unfolding byte_in heap_region
+  heap_zero a lower upper =
+      ap (λ found. option_map_or (λ (region : Region). get_or region.bytes (a - region.base) 0) found 0) (in_heap a lower upper) ∙ zeros_get (heap_size settings - 0) (a - heap_address)
 
   pub code_executable : (a : ℕ) → code_address ≤ a → a < code_address + 4 * length code → executable_in (regions_in image) a ≡ true
   unfolding executable_in code_region

@@ -8,14 +8,14 @@ use Rattle.op_layout.specs.declared.layout.Layout.{Layout}
 use Rattle.op_link.proofs.Decoded.{program_has_words}
 use Rattle.op_link.proofs.Growth.{routine_grows}
 use Rattle.op_link.proofs.Lengths.{some_same}
+use Rattle.op_link.proofs.Mapped.{in_range}
 use Rattle.op_link.specs.Code.{high_of, low_of, symbol_address}
-use Rattle.op_link.specs.Image.{regions_in, start as start_image}
+use Rattle.op_link.specs.Image.{start as start_image}
 use Rattle.op_link.specs.Linking.{addresses_of, linked_size, settled, start_code}
 use Rattle.op_link.specs.Loaded.{HasCode, IsLoaded, addresses_by, linked_sizes}
-use Rattle.op_link.specs.Memory.{are_in_range, segments_of, stack_address}
+use Rattle.op_link.specs.Memory.{are_in_range, heap_size, segments_of, stack_address}
 use Rattle.op_link.specs.Placing.{behind_routine, first_spot, placement_by, routine_place, routine_places}
 use Rattle.op_link.specs.Reach.{head_in}
-use Rattle.op_link.specs.Region.{byte_in}
 use Rattle.op_link.specs.declared.memory_map.Settings.{Settings}
 use Rattle.op_link.specs.declared.place.RoutinePlace.{RoutinePlace}
 use Rattle.op_link.specs.declared.place.Spot.{Spot}
@@ -31,8 +31,9 @@ use Rattle.op_rv.specs.declared.objects.ObjectRoutine.{ObjectRoutine}
 use Rattle.op_rv.specs.declared.objects.Objects.{Objects}
 use Rattle.op_rv.specs.declared.symbol.Symbol.{Symbol}
 use Rattle.op_select.proofs.Beginning.{begins}
+use Rattle.op_select.proofs.ClearLemmas.{stored}
 use Rattle.op_select.proofs.Following.{selected_follows}
-use Rattle.op_select.proofs.Walks.{placed, sound_placed}
+use Rattle.op_select.proofs.Walks.{Walk, placed, sound_placed, walk_join}
 use Rattle.op_select.specs.Going.{IsSafe, IsSetting, Setting, Sound, placement_of}
 use Rattle.op_select.specs.RiscvMachine.{riscv_machine}
 use Rattle.op_select.specs.Selected.{Finished, Matches, MatchesBy, selected}
@@ -42,20 +43,21 @@ use Rattle.op_simulation.proofs.Composition.{joins_equal}
 use Rattle.op_simulation.proofs.Paths.{path_join}
 use Rattle.op_simulation.proofs.Points.{agreement, always_below}
 use Rattle.op_simulation.proofs.Runs.{run_add}
-use Rattle.op_simulation.specs.Path.{Path}
 use Rattle.op_simulation.specs.System.{run, spent}
 use Rattle.op_image.proofs.Counting.{HasItems}
 use Rattle.op_image.proofs.Expanding.{Reachable}
 use Rattle.op_image.proofs.GlobalsPlaced.{globals_stand}
+use Rattle.op_image.proofs.Guarding.{heap_left}
 use Rattle.op_image.proofs.Linkable.{all_fields, same_length}
 use Rattle.op_image.proofs.Mapped.{code_decodes, stack_lies}
-use Rattle.op_image.proofs.Placed.{Known, few_zeros, is_setting, knows, literal_stands, size_within, targets, with_items}
+use Rattle.op_image.proofs.Placed.{Known, few_zeros, heap_stands, is_setting, knows, literal_stands, size_within, targets, with_items}
 use Rattle.op_image.proofs.Places.{places_lie}
 use Rattle.op_image.proofs.Standing.{instruction_here}
-use Rattle.op_image.proofs.Started.{BeginsWith, SixDone, SixStand, bytes_small, program_begins, six_done}
+use Rattle.op_image.proofs.Started.{BeginsWith, HeapDone, SixDone, SixStand, bytes_small, heap_done, program_begins, six_done}
+use Rattle.op_image.specs.Beginning.{begun, begun_by}
 use Rattle.op_image.specs.Building.{is_buildable}
 use Rattle.op_image.specs.Meaning.{linked_code, or_zero, routine_from, setting_of}
-use Rattle.op_image.specs.Means.{AreBytes, GoesAlong, HasRoom, Means, Runs, image_run, low_run, low_start}
+use Rattle.op_image.specs.Means.{AreBytes, GoesAlong, HasRoom, LeavesHeap, Means, Runs, guarded, image_run, low_run, low_start}
 
 -- ---- routines are found where they begin
 
@@ -122,27 +124,27 @@ finished_at w status m b ended matches = subst (λ e. MatchesBy w e m b) ended m
 
 -- ---- from the beginning of the image on
 
-module _ (w : Setting) (law : IsSetting w) (image input : List ℕ) (good : NeverBad w.low (placement_of w) (low_start w image input)) (c : State) (bottom top to : ℕ) (six : SixDone (start_image image input) bottom top to) (same : placed (start_image image input) six.registers to ≡ c) (starts : Starts w (byte_in (regions_in image)) input c) where
-  goes_along : GoesAlong w image input
+module _ (w : Setting) (law : IsSetting w) (memory : ℕ → ℕ) (image input : List ℕ) (good : NeverBad w.low (placement_of w) (low_start w memory input)) (c : State) (walk : Walk (start_image image input) c 18 18 []) (starts : Starts w memory input c) where
+  goes_along : GoesAlong w memory image input
   goes_along =
-      let begun = begins w law (byte_in (regions_in image)) input c starts in
-      let walk = six.walk in
+      let entered = begins w law memory input c starts in
       let most = walk.to in
-      let within = begun.within in
+      let within = entered.within in
       record {
-        first = begun.after;
-        steps = walk.steps + begun.steps;
+        first = entered.after;
+        steps = walk.steps + entered.steps;
+        begun = (let least = walk.from in omega arith);
         within = omega arith;
-        path = path_join riscv_machine (λ s. IsSafe s.ending) (start_image image input) c begun.after walk.steps begun.steps [] [] walk.steps begun.steps (subst (λ c. Path riscv_machine (λ s. IsSafe s.ending) (start_image image input) c walk.steps [] walk.steps) same walk.path) begun.path;
-        agreement = agreement (selected w) (selected_follows w law) joins_equal (low_start w image input) begun.after (begun.matches good);
+        path = path_join riscv_machine (λ s. IsSafe s.ending) (start_image image input) c entered.after walk.steps entered.steps [] [] walk.steps entered.steps walk.path entered.path;
+        agreement = agreement (selected w) (selected_follows w law) joins_equal (low_start w memory input) entered.after (entered.matches good);
       }
 
-later : (w : Setting) (image input : List ℕ) (along : GoesAlong w image input) (k : ℕ) → run riscv_machine k along.first ≡ image_run image input (along.steps + k)
-later w image input along k = ap (run riscv_machine k) (sym along.path.ends) ∙ sym (run_add riscv_machine along.steps k (start_image image input))
+later : (w : Setting) (memory : ℕ → ℕ) (image input : List ℕ) (along : GoesAlong w memory image input) (k : ℕ) → run riscv_machine k along.first ≡ image_run image input (along.steps + k)
+later w memory image input along k = ap (run riscv_machine k) (sym along.path.ends) ∙ sym (run_add riscv_machine along.steps k (start_image image input))
 
-pub runs_along : (w : Setting) (image input : List ℕ) → GoesAlong w image input → Runs w image input
-runs_along w image input along =
-    let m = low_start w image input in
+pub runs_along : (w : Setting) (memory : ℕ → ℕ) (image input : List ℕ) → GoesAlong w memory image input → Runs w memory image input
+runs_along w memory image input along =
+    let m = low_start w memory input in
     let agrees = along.agreement in
     let always = always_below (selected w) (λ s. IsSafe s.ending) (λ a b moment. moment) m along.first agrees in
     record {
@@ -151,7 +153,7 @@ runs_along w image input along =
             | inl early ↦ along.path.moments n early
             | inr late ↦
                 let whole : along.steps + (n - along.steps) ≡ n = omega arith in
-                subst (λ (s : State). IsSafe s.ending) (later w image input along (n - along.steps) ∙ ap (image_run image input) whole) (always (n - along.steps))
+                subst (λ (s : State). IsSafe s.ending) (later w memory image input along (n - along.steps) ∙ ap (image_run image input) whole) (always (n - along.steps))
           ];
       ends = λ n status ended.
           let here = agrees.point n in
@@ -161,7 +163,7 @@ runs_along w image input along =
           record {
             steps = along.steps + here;
             within = omega arith;
-            finished = subst (Finished status (low_run w image input n)) (later w image input along here) (finished_at w status (low_run w image input n) (run riscv_machine here along.first) ended (agrees.states n));
+            finished = subst (Finished status (low_run w memory input n)) (later w memory image input along here) (finished_at w status (low_run w memory input n) (run riscv_machine here along.first) ended (agrees.states n));
           };
       along = along;
     }
@@ -179,15 +181,15 @@ module _ (low : Low) (layout : Layout) (settings : Settings) (image : List ℕ) 
   stands_at n at i is place =
       instruction_here (linked_code (select_of low) layout settings) n at i (ap (λ code. slice_get code n) begun_with.lists ∙ is) place
 
-  six_stand : SixStand (setting_of low layout settings image) 65536 (stack_address settings) 0x70000000 begun_with.to
+  six_stand : SixStand (setting_of low layout settings image) 65584 (stack_address settings) 0x70000000 begun_with.to
   six_stand =
       record {
-        first = stands_at 0 65536 (Lui 8 (high_of (stack_address settings))) refl refl;
-        second = stands_at 1 65540 (Imm Addi 8 8 (low_of (stack_address settings))) refl refl;
-        third = stands_at 2 65544 (Lui 2 (high_of 0x70000000)) refl refl;
-        fourth = stands_at 3 65548 (Imm Addi 2 2 (low_of 0x70000000)) refl refl;
-        fifth = stands_at 4 65552 (Lui 1 (high_of begun_with.to)) refl refl;
-        sixth = stands_at 5 65556 (Jalr 0 1 (low_of begun_with.to)) refl refl;
+        first = stands_at 12 65584 (Lui 8 (high_of (stack_address settings))) refl refl;
+        second = stands_at 13 65588 (Imm Addi 8 8 (low_of (stack_address settings))) refl refl;
+        third = stands_at 14 65592 (Lui 2 (high_of 0x70000000)) refl refl;
+        fourth = stands_at 15 65596 (Imm Addi 2 2 (low_of 0x70000000)) refl refl;
+        fifth = stands_at 16 65600 (Lui 1 (high_of begun_with.to)) refl refl;
+        sixth = stands_at 17 65604 (Jalr 0 1 (low_of begun_with.to)) refl refl;
       }
 
   law_here : IsSetting (setting_of low layout settings image)
@@ -215,18 +217,36 @@ module _ (low : Low) (layout : Layout) (settings : Settings) (image : List ℕ) 
     unfolding start_image
     starts_at_code = loaded.entry
 
-    six : SixDone (start_image image input) (stack_address settings) 0x70000000 begun_with.to
+    heap : HeapDone (setting_of low layout settings image) (start_image image input) (heap_size settings) (1024 * settings.stack) 65584
+    heap =
+        let stands = heap_stands low layout settings image buildable ranged within loaded has in
+        let range = in_range settings ranged in
+        let least = range.heap_least in
+        let most = range.heap_most in
+        let stack_most = range.stack_most in
+        heap_done (setting_of low layout settings image) law_here settings begun_with.to begun_with.rest (start_image image input) sound_start starts_at_code (omega arith) (omega arith)
+        (λ x from before. stands.control_writable x from (omega arith)) (λ x from before. stands.heap_writable x from (omega arith))
+        (λ n i is. stands_at n (65536 + 4 * n) i is refl)
+
+    -- the state in which the heap is one hole
+    abbrev heap_made : State
+    heap_made = stored (start_image image input) heap.registers 65584 (begun_by (start_image image input).memory (heap_size settings) (1024 * settings.stack))
+
+    six : SixDone heap_made (stack_address settings) 0x70000000 begun_with.to
     six =
         let stack = stack_lies settings ranged in
         let sum = stack.sum in
-        six_done (setting_of low layout settings image) law_here (start_image image input) (stack_address settings) 0x70000000 begun_with.to sound_start (omega arith) (omega arith) reachable_entry (subst (λ at. SixStand (setting_of low layout settings image) at (stack_address settings) 0x70000000 begun_with.to) (sym starts_at_code) six_stand)
+        six_done (setting_of low layout settings image) law_here heap_made (stack_address settings) 0x70000000 begun_with.to heap.sound (omega arith) (omega arith) reachable_entry six_stand
 
-    started : HasRoom (setting_of low layout settings image) → AreBytes input → Starts (setting_of low layout settings image) (byte_in (regions_in image)) input (placed (start_image image input) six.registers begun_with.to)
+    abbrev at_entry : State
+    at_entry = placed heap_made six.registers begun_with.to
+
+    started : HasRoom (setting_of low layout settings image) → AreBytes input → Starts (setting_of low layout settings image) (begun settings image) input at_entry
     unfolding start_image select_of
     started room input_bytes =
         let stack = stack_lies settings ranged in
         record {
-          sound = sound_placed (setting_of low layout settings image) law_here (start_image image input) six.registers begun_with.to sound_start six.size;
+          sound = sound_placed (setting_of low layout settings image) law_here heap_made six.registers begun_with.to heap.sound six.size;
           pc = sym (ap or_zero begun_with.head);
           limit = six.limit;
           sp = six.sp;
@@ -241,9 +261,23 @@ module _ (low : Low) (layout : Layout) (settings : Settings) (image : List ℕ) 
           room = room;
         }
 
-    pub runs_here : HasRoom (setting_of low layout settings image) → AreBytes input → NeverBad low (placement_of (setting_of low layout settings image)) (low_start (setting_of low layout settings image) image input) → Runs (setting_of low layout settings image) image input
+    pub runs_here : HasRoom (setting_of low layout settings image) → AreBytes input → NeverBad low (placement_of (setting_of low layout settings image)) (low_start (setting_of low layout settings image) (begun settings image) input) → Runs (setting_of low layout settings image) (begun settings image) image input
     runs_here room input_bytes good =
-        runs_along (setting_of low layout settings image) image input (goes_along (setting_of low layout settings image) law_here image input good (placed (start_image image input) six.registers begun_with.to) (stack_address settings) 0x70000000 begun_with.to six refl (started room input_bytes))
+        runs_along (setting_of low layout settings image) (begun settings image) image input
+        (goes_along (setting_of low layout settings image) law_here (begun settings image) image input good at_entry (walk_join (start_image image input) heap_made at_entry 12 12 6 6 [] [] heap.walk six.walk) (started room input_bytes))
+
+    pub leaves_here : HasRoom (setting_of low layout settings image) → AreBytes input → NeverBad low (placement_of (guarded (setting_of low layout settings image) settings)) (low_start (guarded (setting_of low layout settings image) settings) (begun settings image) input) → LeavesHeap settings (begun settings image) image input
+    unfolding start_image
+    leaves_here room input_bytes good n x past is =
+        let walk = walk_join (start_image image input) heap_made at_entry 12 12 6 6 [] [] heap.walk six.walk in
+        let from = walk.from in
+        let to = walk.to in
+        let whole : walk.steps + (n - walk.steps) ≡ n = omega arith in
+        let below = (heap_stands low layout settings image buildable ranged within loaded has).below in
+        let there : image_run image input n ≡ run riscv_machine (n - walk.steps) at_entry =
+        ap (image_run image input) (sym whole) ∙ run_add riscv_machine walk.steps (n - walk.steps) (start_image image input) ∙ ap (run riscv_machine (n - walk.steps)) walk.path.ends in
+        ap (λ (s : State). s.memory x) there
+        ∙ heap_left (setting_of low layout settings image) law_here settings below (begun settings image) input at_entry (started room input_bytes) good (n - walk.steps) x is
 
   symbol_word : (symbol : Symbol) → or_zero (symbol_address layout (addresses_by (settled layout (select_of low) settings) layout (select_of low)) symbol) < 2 ^ 32
   symbol_word symbol = address_by (symbol_address layout (addresses_by (settled layout (select_of low) settings) layout (select_of low)) symbol) ((targets low layout settings image buildable ranged within loaded has).symbols symbol)
@@ -278,9 +312,11 @@ module _ (low : Low) (layout : Layout) (settings : Settings) (image : List ℕ) 
         loads = loaded.meets;
         literals = literal_stands low layout settings image buildable ranged within loaded has;
         globals = globals_stand low layout settings image buildable ranged within loaded has;
+        heap = heap_stands low layout settings image buildable ranged within loaded has;
         setting = law_here;
         placement = is_placement;
         runs = λ room input input_bytes good. runs_here bytes input room input_bytes good;
+        leaves = λ room input input_bytes good. leaves_here bytes input room input_bytes good;
       }
 
 -- the same of objects that are its selection

@@ -8,12 +8,12 @@ use Rattle.op_layout.specs.declared.layout.LiteralPlace.{LiteralPlace}
 use Rattle.op_link.proofs.Growth.{code_end}
 use Rattle.op_link.proofs.Lengths.{code_end_is, some_same}
 use Rattle.op_link.proofs.Loading.{zeros_at_most}
-use Rattle.op_link.proofs.Mapped.{length-constants}
+use Rattle.op_link.proofs.Mapped.{in_range, length-constants}
 use Rattle.op_link.specs.Code.{address_at, address_of_place, symbol_address, words_of}
 use Rattle.op_link.specs.Image.{regions_in}
 use Rattle.op_link.specs.Linking.{addresses_of, constants_bytes, entry_word, linked_size, linked_size_by, linked_size_of, program_code, settled, sizes_of, words}
 use Rattle.op_link.specs.Loaded.{Decodes, HasCode, HasCodeBy, IsLoaded, addresses_by, linked_sizes, sizes_by}
-use Rattle.op_link.specs.Memory.{are_in_range, constants_address, constants_size, globals_size, segments_of, zero_size}
+use Rattle.op_link.specs.Memory.{are_in_range, constants_address, constants_size, control_address, globals_size, heap_address, heap_size, segments_of, zero_size}
 use Rattle.op_link.specs.Placing.{items_in_routines, placement_by}
 use Rattle.op_link.specs.Reach.{head_in}
 use Rattle.op_link.specs.Region.{byte_in}
@@ -35,13 +35,15 @@ use Rattle.op_select.specs.Placing.{StandsObjects}
 use Rattle.op_select.specs.Selection.{select_of}
 use Rattle.op_image.proofs.Counting.{HasItems, have_items, routines_counted}
 use Rattle.op_image.proofs.Expanding.{Targets}
+use Rattle.op_image.proofs.HeapBegun.{begun_kept, has_bounds, heap_lies, table_lies}
 use Rattle.op_image.proofs.Linkable.{globals_fit, literal_offset, routines_valid, valid_code}
-use Rattle.op_image.proofs.Mapped.{byte_of_constants, code_executable, code_fixed, constants_fixed, constants_readable, located, stack_lies, stack_readable, stack_writable}
+use Rattle.op_image.proofs.Mapped.{byte_of_constants, code_executable, code_fixed, constants_fixed, constants_readable, control_readable, control_writable, control_zero, heap_readable, heap_writable, heap_zero, located, stack_lies, stack_readable, stack_writable}
 use Rattle.op_image.proofs.Places.{targets_reached}
 use Rattle.op_image.proofs.Standing.{routine_stands}
+use Rattle.op_image.specs.Beginning.{begun}
 use Rattle.op_image.specs.Building.{is_buildable}
 use Rattle.op_image.specs.Meaning.{linked_addresses, linked_code, or_zero, placing_by, routine_from, setting_of}
-use Rattle.op_image.specs.Means.{StandsText, literal_bytes}
+use Rattle.op_image.specs.Means.{HeapStands, StandsText, literal_bytes}
 
 -- ---- the code
 
@@ -200,7 +202,7 @@ module _ (low : Low) (layout : Layout) (settings : Settings) (image : List ℕ) 
       ∙ sym (get_or-drop place.offset layout.bytes k 0)
       ∙ sym (get_or-take place.length rest k 0 (omega arith))
 
-  pub literal_stands : (id : LiteralId) (place : LiteralPlace) → slice_get layout.literals id.0 ≡ Some place → StandsText (setting_of low layout settings image) image ((setting_of low layout settings image).placing.address (Literal id)) (literal_bytes layout place)
+  pub literal_stands : (id : LiteralId) (place : LiteralPlace) → slice_get layout.literals id.0 ≡ Some place → StandsText (setting_of low layout settings image) (begun settings image) ((setting_of low layout settings image).placing.address (Literal id)) (literal_bytes layout place)
   unfolding constants_address
   literal_stands id place is =
       let sizes = linked_sizes (select_of low) layout settings in
@@ -214,11 +216,14 @@ module _ (low : Low) (layout : Layout) (settings : Settings) (image : List ℕ) 
       let laid = constants_are in
       let stack = (stack_lies settings ranged).from in
       let at = constants_address sizes + place.offset in
-      subst (λ at. StandsText (setting_of low layout settings image) image at (literal_bytes layout place)) (sym (literal_address id place is inside)) record {
+      subst (λ at. StandsText (setting_of low layout settings image) (begun settings image) at (literal_bytes layout place)) (sym (literal_address id place is inside)) record {
         readable = λ x from before. constants_readable image sizes settings (linked_code (select_of low) layout settings) loaded knows.words ranged size_within few_zeros constants has.constants x (omega arith) (omega arith);
         fixed = λ x from before. constants_fixed image sizes settings (linked_code (select_of low) layout settings) loaded knows.words ranged size_within few_zeros constants has.constants x (omega arith) (omega arith);
         below = omega arith;
-        stands = bytes_there (byte_in (regions_in image)) at (literal_bytes layout place) (λ k before. let place_of : at + k ≡ constants_address sizes + (place.offset + k) = omega arith in ap (byte_in (regions_in image)) place_of ∙ literal_byte place k before);
+        stands = bytes_there (begun settings image) at (literal_bytes layout place) (λ k before.
+            let place_of : at + k ≡ constants_address sizes + (place.offset + k) = omega arith in
+            begun_kept (byte_in (regions_in image)) (heap_size settings) (1024 * settings.stack) (at + k) (λ from early. omega arith) (λ from early. omega arith)
+            ∙ ap (byte_in (regions_in image)) place_of ∙ literal_byte place k before);
       }
 
   -- ---- the setting
@@ -246,4 +251,30 @@ module _ (low : Low) (layout : Layout) (settings : Settings) (image : List ℕ) 
         writable = λ x from before. stack_writable image sizes settings c loaded knows.words ranged size_within few_zeros x from before;
         low_top = omega arith;
         finds = λ at r is. head_found (addresses_by (settled layout (select_of low) settings) layout (select_of low)).routines at r is;
+      }
+
+  -- ---- the control region and the heap
+
+  pub heap_stands : HeapStands (setting_of low layout settings image) (begun settings image) settings image
+  heap_stands =
+      let sizes = linked_sizes (select_of low) layout settings in
+      let c = linked_code (select_of low) layout settings in
+      let range = in_range settings ranged in
+      let least = range.heap_least in
+      let most = range.heap_most in
+      let stack_most = range.stack_most in
+      let from = (stack_lies settings ranged).from in
+      let loaded_memory = byte_in (regions_in image) in
+      let clear : (x : ℕ) → control_address ≤ x → x < control_address + 524312 → loaded_memory x ≡ 0 = λ x first before. control_zero image sizes settings c loaded knows.words ranged size_within few_zeros x first before in
+      let zeros : (x : ℕ) → heap_address ≤ x → x < heap_address + heap_size settings → loaded_memory x ≡ 0 = λ x first before. heap_zero image sizes settings c loaded knows.words ranged size_within few_zeros x first before in
+      record {
+        control_readable = λ x first before. control_readable image sizes settings c loaded knows.words ranged size_within few_zeros x first before;
+        control_writable = λ x first before. control_writable image sizes settings c loaded knows.words ranged size_within few_zeros x first before;
+        heap_readable = λ x first before. heap_readable image sizes settings c loaded knows.words ranged size_within few_zeros x first before;
+        heap_writable = λ x first before. heap_writable image sizes settings c loaded knows.words ranged size_within few_zeros x first before;
+        below = omega arith;
+        lies = heap_lies loaded_memory (heap_size settings) (1024 * settings.stack) (omega arith) (omega arith) (omega arith) (omega arith) clear zeros;
+        table = table_lies loaded_memory (heap_size settings) (1024 * settings.stack) (omega arith) (omega arith) (omega arith) (omega arith) clear zeros;
+        bounds = has_bounds loaded_memory (heap_size settings) (1024 * settings.stack) (omega arith) (omega arith) (omega arith) (omega arith) clear zeros;
+        kept = λ x control heap. begun_kept loaded_memory (heap_size settings) (1024 * settings.stack) x (λ at before. control (omega arith) (omega arith)) (λ at before. heap (omega arith) (omega arith));
       }

@@ -129,7 +129,7 @@ module _ (known : List RoutinePlace) (layout : Layout) (objects : Objects) (with
   unfolding linked_size_by sizes_of placement_by
   end_is_low = omega arith
 
-  reachable : (at : ℕ) → Lies 0x00010018 (behind_routines known 0 first_spot objects.routines).address at → Reachable at
+  reachable : (at : ℕ) → Lies 0x00010048 (behind_routines known 0 first_spot objects.routines).address at → Reachable at
   reachable at lies =
       let end = end_is_low in
       let upper = lies.upper.under in
@@ -143,12 +143,12 @@ module _ (known : List RoutinePlace) (layout : Layout) (objects : Objects) (with
   head_lies : (r at : ℕ) → head_in (addresses_by known layout objects).routines r ≡ Some at → Reachable at
   unfolding head_in
   head_lies r at is =
-      reachable at (head_by known [] (slice_get (routine_places known 0 first_spot objects.routines) r) 0x00010018 (behind_routines known 0 first_spot objects.routines).address at (places_lie known 0 first_spot objects.routines r) (ap (λ (places : List RoutinePlace). option_map (λ (place : RoutinePlace). place.head) (slice_get places r)) (sym routines_are) ∙ is))
+      reachable at (head_by known [] (slice_get (routine_places known 0 first_spot objects.routines) r) 0x00010048 (behind_routines known 0 first_spot objects.routines).address at (places_lie known 0 first_spot objects.routines r) (ap (λ (places : List RoutinePlace). option_map (λ (place : RoutinePlace). place.head) (slice_get places r)) (sym routines_are) ∙ is))
 
   block_is_there : (r b at : ℕ) → block_in (addresses_by known layout objects).routines r b ≡ Some at → Reachable at
   unfolding block_in
   block_is_there r b at is =
-      reachable at (block_by b (slice_get (routine_places known 0 first_spot objects.routines) r) 0x00010018 (behind_routines known 0 first_spot objects.routines).address at (places_lie known 0 first_spot objects.routines r) (ap (λ (places : List RoutinePlace). option_map_or (λ (place : RoutinePlace). slice_get place.blocks b) (slice_get places r) None) (sym routines_are) ∙ is))
+      reachable at (block_by b (slice_get (routine_places known 0 first_spot objects.routines) r) 0x00010048 (behind_routines known 0 first_spot objects.routines).address at (places_lie known 0 first_spot objects.routines r) (ap (λ (places : List RoutinePlace). option_map_or (λ (place : RoutinePlace). slice_get place.blocks b) (slice_get places r) None) (sym routines_are) ∙ is))
 
   globals_low : globals_address (sizes_by known layout objects) + initial_size objects.globals + zero_size objects.globals < 2 ^ 32
   unfolding linked_size_by sizes_by sizes_of globals_address constants_address

@@ -1,3 +1,4 @@
+pub mod Beginning
 pub mod Building
 pub mod Meaning
 pub mod Means

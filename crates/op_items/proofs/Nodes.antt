@@ -1,6 +1,6 @@
 -- What a row of items says is what the items of its list say.
 use Rattle.std.proofs.Common.{◌≡◌, ℕ, List, [], ◌∷◌, ◌++◌, refl, ap, sym, ◌∙◌, ap₂}
-use Rattle.std.specs.Prelude.{Vec}
+use Rattle.std.specs.Prelude.{Vec, map}
 use mathlib.Core.Former.{Count}
 use Rattle.std.specs.declared.alloc.Global.{Global}
 use Rattle.op_core.specs.declared.program.Core.{Core}
@@ -8,9 +8,10 @@ use Rattle.op_items.specs.Nodes.{ItemNodes}
 use Rattle.op_items.specs.View.{item_view, item_row, case_row, clause_row, items_view, cases_view, clauses_view, turns_view, variable_view}
 use Rattle.op_items.specs.declared.item.Clause.{Clause}
 use Rattle.op_items.specs.declared.item.Item.{Item, Row_of-Item, end_of-Item, more_of-Item, items-the_row-Item, items_hidden-the_row-Item-0, items_shown-the_row-Item-0, Row_of-Case, end_of-Case, more_of-Case, items-the_row-Case, items_hidden-the_row-Case-1, Row_of-Clause, end_of-Clause, more_of-Clause, items-the_row-Clause, items_hidden-the_row-Clause-2}
-use Rattle.op_items.specs.declared.item.Item.TheVariants.{Also, Choose, Select, Loop, BodyFirst, Protect, Attempt, AttemptAll, Also', Choose', Select', Loop', BodyFirst', Protect', Attempt', AttemptAll'}
+use Rattle.op_items.specs.declared.item.Item.TheVariants.{Also, Choose, Select, Loop, BodyFirst, Protect, Scoped, Attempt, AttemptAll, Also', Choose', Select', Loop', BodyFirst', Protect', Scoped', Attempt', AttemptAll'}
 use Rattle.op_items.specs.declared.item.Turns.{Turns}
-use Rattle.op_meaning.specs.Items.{also, choose, select, loop, body_first, protect, attempt, then_do, turns, cases, clauses, Clauses, no_clauses, for_others, ◌&◌}
+use Rattle.op_meaning.specs.Items.{also, choose, select, loop, body_first, protect, scoped, attempt, then_do, turns, cases, clauses, Clauses, no_clauses, for_others, ◌&◌}
+use Rattle.op_mir.specs.View.{view_temporary}
 
 -- ---- rows
 
@@ -38,6 +39,7 @@ first_in (Select' t _ cs _ row) = (_, row)
 first_in (Loop' _ row t ends _ between _ body) = (_, row)
 first_in (BodyFirst' _ row t ends _ between _ body) = (_, row)
 first_in (Protect' t _ row _ others) = (_, row)
+first_in (Scoped' t ts _ row) = (_, row)
 first_in (Attempt' _ row _ cs) = (_, row)
 first_in (AttemptAll' _ row _ cs _ others) = (_, row)
 first_in other = (_, end_of-Item)
@@ -83,6 +85,7 @@ item_nodes core r = record {
   loop_says = λ l. ap loop (by_turns core r l (first_in (Loop l)) (second_in (Loop l)) (third_in (Loop l)) (items_hidden-the_row-Item-0 l.head) (items_hidden-the_row-Item-0 l.between) (items_hidden-the_row-Item-0 l.body));
   body_first_says = λ l. ap body_first (by_turns core r l (first_in (BodyFirst l)) (second_in (BodyFirst l)) (third_in (BodyFirst l)) (items_hidden-the_row-Item-0 l.head) (items_hidden-the_row-Item-0 l.between) (items_hidden-the_row-Item-0 l.body));
   protect_says = λ t items finalization. ap₂ (protect t.0) (by_items core r (first_in (Protect t items finalization)) items (items_hidden-the_row-Item-0 items)) (by_items core r (second_in (Protect t items finalization)) finalization (items_hidden-the_row-Item-0 finalization));
+  scoped_says = λ t ts items. ap (scoped (view_temporary t) (map view_temporary ts)) (by_items core r (first_in (Scoped t ts items)) items (items_hidden-the_row-Item-0 items));
   attempt_says = λ items cs. ap₂ attempt (by_items core r (first_in (Attempt items cs)) items (items_hidden-the_row-Item-0 items)) (by_clauses core r (clauses_in (Attempt items cs)) cs no_clauses (items_hidden-the_row-Clause-2 cs));
   attempt_all_says = λ items cs others.
       ap₂ attempt (by_items core r (first_in (AttemptAll items cs others)) items (items_hidden-the_row-Item-0 items))

@@ -4,13 +4,13 @@ use Rattle.op_core.specs.declared.program.Core.{Core}
 use Rattle.op_items.specs.declared.item.Case.{Case}
 use Rattle.op_items.specs.declared.item.Clause.{Clause}
 use Rattle.op_items.specs.declared.item.Item.{Item, Row_of-Item, end_of-Item, more_of-Item, Row_of-Case, end_of-Case, more_of-Case, Row_of-Clause, end_of-Clause, more_of-Clause}
-use Rattle.op_items.specs.declared.item.Item.TheVariants.{Act, Also', Choose', Select', Loop', BodyFirst', Protect', Leave, Enter, Attempt', AttemptAll', Throw, Rethrow, Halt, Construct, Free}
+use Rattle.op_items.specs.declared.item.Item.TheVariants.{Act, Also', Choose', Select', Loop', BodyFirst', Protect', Leave, Enter, Scoped', Attempt', AttemptAll', Throw, Rethrow, Halt, Construct, Free}
 use Rattle.op_items.specs.declared.item.Turns.{Turns}
 use Rattle.op_items.specs.declared.item.Way.{Way}
 use Rattle.op_items.specs.declared.item.Way.TheVariants.{Exit, Break, Continue}
-use Rattle.op_meaning.specs.Items.{Item as MeantItem, act, also, choose, select, loop, body_first, protect, leave, enter, attempt, throw, rethrow, halt, construct, free, Items, none, then_do, Turns as MeantTurns, turns, Cases, no_cases, cases, Clauses, no_clauses, for_others, clauses}
+use Rattle.op_meaning.specs.Items.{Item as MeantItem, act, also, choose, select, loop, body_first, protect, leave, enter, scoped, attempt, throw, rethrow, halt, construct, free, Items, none, then_do, Turns as MeantTurns, turns, Cases, no_cases, cases, Clauses, no_clauses, for_others, clauses}
 use Rattle.op_meaning.specs.Paths.{Root as MeantRoot}
-use Rattle.op_mir.specs.View.{view_action, view_given, view_path, view_receiver, view_root}
+use Rattle.op_mir.specs.View.{view_action, view_given, view_path, view_receiver, view_root, view_temporary}
 use Rattle.op_mir.specs.declared.path.Root.{Root}
 
 -- 0 leaves the routine, 1 the loop, 2 its turn
@@ -35,6 +35,7 @@ abbrev mutual
   item_view core r (Protect' t _ row _ finalization) = protect t.0 (item_row core r row) (item_row core r finalization)
   item_view core r (Leave way) = leave (way_view way)
   item_view core r (Enter id given receiver) = enter id.0 (map view_given given) (view_receiver receiver)
+  item_view core r (Scoped' first others _ row) = scoped (view_temporary first) (map view_temporary others) (item_row core r row)
   item_view core r (Attempt' _ row _ handlers) = attempt (item_row core r row) (clause_row core r handlers no_clauses)
   item_view core r (AttemptAll' _ row _ handlers _ others) = attempt (item_row core r row) (clause_row core r handlers (for_others (item_row core r others)))
   item_view core r (Throw at) = throw (view_path at)

@@ -1,7 +1,7 @@
 //! The items of a statement.
 use op_base::Sequence;
 use op_core::{ClassId, Label, RoutineId};
-use op_mir::{Action, Given, Path, Receiver, Root, TemporaryId};
+use op_mir::{Action, Given, Path, Receiver, Root, Temporary, TemporaryId};
 
 /// How a statement leaves what stands round it.
 #[derive(Clone, Copy)]
@@ -47,6 +47,13 @@ pub enum Item {
         routine: RoutineId,
         given: Sequence<Given>,
         receiver: Receiver,
+    },
+    /// Items that may make these temporaries. Behind them, and where they are left, these end in this order, the one that is made last
+    /// first, and of each only what was made.
+    Scoped {
+        first: Temporary,
+        others: Sequence<Temporary>,
+        items: Vec<Item>,
     },
     /// A part with handlers. An exception that no clause takes goes on.
     Attempt {

@@ -1,5 +1,5 @@
 -- Each word of the code decodes.
-use Rattle.std.proofs.Common.{◌≡◌, ℕ, ℤ, pos, suc, ◌+◌, ◌-◌, ◌/◌, ◌%◌, ◌^◌, ◌<◌, inl, inr, true, ◌&&◌, nat_lt, Option, Some, None, IfSome, IsTrue, List, [], ◌∷◌, ◌++◌, refl, ◌∙◌, subst, arith}
+use Rattle.std.proofs.Common.{◌≡◌, ℕ, ℤ, pos, suc, ◌+◌, ◌-◌, ◌*◌, ◌/◌, ◌%◌, ◌^◌, ◌<◌, inl, inr, true, ◌&&◌, nat_lt, Option, Some, None, IfSome, IsTrue, List, [], ◌∷◌, ◌++◌, drop, refl, ◌∙◌, subst, arith}
 use Rattle.std.proofs.lemmas.Bool.{and_parts, and_from, lt-ltb, cases_Bool, ltb-false}
 use Rattle.std.proofs.lemmas.List.Folds.{list_all-append}
 use Rattle.std.specs.List.{list_all}
@@ -23,9 +23,9 @@ use Rattle.op_link.specs.declared.reach.Reach.TheVariants.{Direct, OverJump, ByR
 use Rattle.op_link.specs.Reach.{reach_of, block_in, head_in}
 use Rattle.op_link.specs.Placing.{behind, behind_items, behind_routine, first_spot}
 use Rattle.op_link.specs.Code.{high_of, low_of, then_code, code_at, set_address, go_by_register, jump_code, opposite_of, branch_code, distance_within, symbol_address, item_code, items_code, blocks_code, routine_code, routines_code, has_fields, have_fields, blocks_have_fields, routine_has_fields}
-use Rattle.op_link.specs.Linking.{program_code, start_code}
+use Rattle.op_link.specs.Linking.{first_hole_code, heap_code, heap_size_code, program_code, stack_code, stack_size_code, start_code}
 use Rattle.op_link.specs.Loaded.{Decodes}
-use Rattle.op_link.specs.Memory.{stack_address, stack_top}
+use Rattle.op_link.specs.Memory.{heap_size, stack_address, stack_top}
 use Rattle.op_link.proofs.Distances.{backward, branch_fits, jump_fits}
 use Rattle.op_link.proofs.Lengths.{some_same}
 
@@ -139,10 +139,25 @@ routines_fit layout addresses r spot (routine ∷ routines) have =
     let parts = and_parts (routine_has_fields routine) (list_all routine_has_fields routines) have in
     apart _ _ (routine_fits layout addresses r spot routine parts.0) (routines_fit layout addresses (suc r) (behind_routine addresses.known r spot routine) routines parts.1)
 
-start_fits : (settings : Settings) (to : ℕ) → list_all fits (start_code settings to) ≡ true
-start_fits settings to =
+heap_fits : (settings : Settings) → list_all fits (heap_code settings) ≡ true
+unfolding high_of
+heap_fits settings =
+    list_all-append fits (first_hole_code ++ heap_size_code settings) (stack_size_code settings)
+    ∙ and_from (list_all fits (first_hole_code ++ heap_size_code settings)) (list_all fits (stack_size_code settings))
+    (list_all-append fits first_hole_code (heap_size_code settings) ∙ and_from (list_all fits first_hole_code) (list_all fits (heap_size_code settings)) refl (told 7 (heap_size settings) (drop 2 (heap_size_code settings)) refl refl))
+    (told 7 (1024 * settings.stack) (drop 2 (stack_size_code settings)) refl refl)
+  where
+    told : (rd to : ℕ) (code : List Instr) → is_register rd ≡ true → list_all fits code ≡ true → list_all fits (set_address rd to ++ code) ≡ true
+    told rd to code is rest = list_all-append fits (set_address rd to) code ∙ and_from (list_all fits (set_address rd to)) (list_all fits code) (address_fits rd to is) rest
+
+stack_fits : (settings : Settings) (to : ℕ) → list_all fits (stack_code settings to) ≡ true
+stack_fits settings to =
     list_all-append fits (set_address 8 (stack_address settings) ++ set_address 2 stack_top) (go_by_register 0 to)
     ∙ and_from (list_all fits (set_address 8 (stack_address settings) ++ set_address 2 stack_top)) (list_all fits (go_by_register 0 to)) (list_all-append fits (set_address 8 (stack_address settings)) (set_address 2 stack_top) ∙ and_from (list_all fits (set_address 8 (stack_address settings))) (list_all fits (set_address 2 stack_top)) (address_fits 8 (stack_address settings) refl) (address_fits 2 stack_top refl)) (far_fits 0 to refl)
+
+start_fits : (settings : Settings) (to : ℕ) → list_all fits (start_code settings to) ≡ true
+start_fits settings to =
+    list_all-append fits (heap_code settings) (stack_code settings to) ∙ and_from (list_all fits (heap_code settings)) (list_all fits (stack_code settings to)) (heap_fits settings) (stack_fits settings to)
 
 program_fits : (layout : Layout) (addresses : Addresses) (settings : Settings) (objects : Objects) → list_all routine_has_fields objects.routines ≡ true → Fits (program_code layout addresses settings objects)
 unfolding program_code

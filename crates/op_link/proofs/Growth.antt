@@ -73,7 +73,7 @@ routines_grow known r spot (routine ∷ routines) =
     let next = behind_routine known r spot routine in
     grows_join spot.address next.address (behind_routines known (suc r) next routines).address (items_in_routine routine) (items_in_routines routines) (items_in_routines (routine ∷ routines)) (sum_by-cons items_in_routine routine routines) (routine_grows known r spot routine) (routines_grow known (suc r) next routines)
 
-pub code_end : (known : List RoutinePlace) (routines : List ObjectRoutine) → Grows 0x00010018 (placement_by known routines).end (items_in_routines routines)
+pub code_end : (known : List RoutinePlace) (routines : List ObjectRoutine) → Grows 0x00010048 (placement_by known routines).end (items_in_routines routines)
 unfolding placement_by
 code_end known routines = routines_grow known 0 first_spot routines
 

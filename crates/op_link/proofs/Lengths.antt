@@ -106,7 +106,7 @@ routines_end layout addresses r spot (routine ∷ routines) =
 program_ends : (layout : Layout) (addresses : Addresses) (settings : Settings) (objects : Objects) → Ends (program_code layout addresses settings objects) 0x00010000 (behind_routines addresses.known 0 first_spot objects.routines).address
 unfolding program_code
 program_ends layout addresses settings objects =
-    ends_at _ (head_in addresses.routines objects.entry.0) 0x00010000 (behind_routines addresses.known 0 first_spot objects.routines).address (λ to. apart (Some (start_code settings to)) (routines_code layout addresses 0 first_spot objects.routines) 0x00010000 0x00010018 (behind_routines addresses.known 0 first_spot objects.routines).address (ends_some (start_code settings to) 0x00010000 0x00010018 refl) (routines_end layout addresses 0 first_spot objects.routines))
+    ends_at _ (head_in addresses.routines objects.entry.0) 0x00010000 (behind_routines addresses.known 0 first_spot objects.routines).address (λ to. apart (Some (start_code settings to)) (routines_code layout addresses 0 first_spot objects.routines) 0x00010000 0x00010048 (behind_routines addresses.known 0 first_spot objects.routines).address (ends_some (start_code settings to) 0x00010000 0x00010048 refl) (routines_end layout addresses 0 first_spot objects.routines))
 
 pub code_end_is : (layout : Layout) (addresses : Addresses) (settings : Settings) (objects : Objects) (code : List Instr) → program_code layout addresses settings objects ≡ Some code → 0x00010000 + 4 * length code ≡ (behind_routines addresses.known 0 first_spot objects.routines).address
 unfolding Ends

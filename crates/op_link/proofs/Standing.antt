@@ -167,6 +167,6 @@ unfolding program_code
 all_stand code layout addresses settings objects places is =
     let start = begun (head_in addresses.routines objects.entry.0) _ code is in
     let parts = both (Some (start_code settings start.to)) (routines_code layout addresses 0 first_spot objects.routines) code start.is in
-    let six : 4 * length parts.first ≡ 24 = ap (λ (first : List Instr). 4 * length first) (sym (some_same (start_code settings start.to) parts.first parts.is_first)) in
-    let stands = rest_stands code 0x00010000 0x00010018 parts.first parts.rest code parts.joined (omega (arith, six)) (whole_stands code) in
+    let start_bytes : 4 * length parts.first ≡ 72 = ap (λ (first : List Instr). 4 * length first) (sym (some_same (start_code settings start.to) parts.first parts.is_first)) in
+    let stands = rest_stands code 0x00010000 0x00010048 parts.first parts.rest code parts.joined (omega (arith, start_bytes)) (whole_stands code) in
     λ r routine at. let count : 0 + r ≡ r = omega arith in routine_stands code layout addresses r routine (subst (λ (places : List RoutinePlace). AmongRoutines code layout addresses places r r routine) (sym places) (routines_stand code layout addresses 0 first_spot objects.routines parts.rest parts.is_rest stands r r routine count at))

@@ -1,10 +1,13 @@
 -- Objects as an image.
-use Rattle.std.specs.Prelude.{ℕ, ◌+◌, ◌-◌, Bool, true, false, ◌&&◌, Option, Some, None, List, [], ◌∷◌, ◌++◌, length, map, replicate, slice_get, is_some, nat_lt, nat_le, if◌then◌else◌}
+use Rattle.std.specs.Prelude.{ℕ, pos, ◌+◌, ◌-◌, ◌*◌, Bool, true, false, ◌&&◌, Option, Some, None, List, [], ◌∷◌, ◌++◌, length, map, replicate, slice_get, is_some, nat_lt, nat_le, if◌then◌else◌}
 use Rattle.std.specs.List.{flat_map, list_all}
 use Rattle.std.specs.Option.{option_map, option_map_or}
 use Rattle.byteorder.specs.Endian.{little_bytes}
 use Rattle.op_layout.specs.declared.layout.Layout.{Layout}
+use Rattle.op_rv.specs.declared.instruction.ImmOp.TheVariants.{Addi}
 use Rattle.op_rv.specs.declared.instruction.Instr.{Instr}
+use Rattle.op_rv.specs.declared.instruction.Instr.TheVariants.{Imm, Lui, Store}
+use Rattle.op_rv.specs.declared.instruction.StoreOp.TheVariants.{Sw}
 use Rattle.op_rv.specs.declared.objects.Item.{Item}
 use Rattle.op_rv.specs.declared.objects.Item.TheVariants.{Plain, Address, Branch, Jump, Call, CallAt}
 use Rattle.op_rv.specs.declared.objects.ObjectRoutine.{ObjectRoutine}
@@ -19,8 +22,8 @@ use Rattle.op_link.specs.declared.place.RoutinePlace.{RoutinePlace}
 use Rattle.op_link.specs.declared.table.Segment.{Segment}
 use Rattle.op_link.specs.Reach.{head_in}
 use Rattle.op_link.specs.Placing.{first_spot, placement_by}
-use Rattle.op_link.specs.Code.{code_at, go_by_register, routine_has_fields, routines_code, set_address, then_code, words_of}
-use Rattle.op_link.specs.Memory.{code_address, constants_address, constants_size, global_addresses, globals_address, globals_size, initial_bytes, initial_size, segments_of, stack_address, stack_top, zero_size}
+use Rattle.op_link.specs.Code.{code_at, go_by_register, high_of, routine_has_fields, routines_code, set_address, then_code, words_of}
+use Rattle.op_link.specs.Memory.{code_address, constants_address, constants_size, control_address, global_addresses, globals_address, globals_size, heap_address, heap_size, initial_bytes, initial_size, segments_of, stack_address, stack_top, zero_size}
 
 -- ---- headers
 
@@ -49,11 +52,31 @@ program_headers segments = flat_map program_header segments
 
 -- ---- the code and the constants
 
--- sets x8 to the bottom of the stack and x2 to its top, and goes to an address
-abbrev pub start_code : Settings → ℕ → List Instr
-start_code settings to = set_address 8 (stack_address settings) ++ set_address 2 stack_top ++ go_by_register 0 to
+-- x5 gets the address of the control region and x6 that of the heap, and the region is told that the first hole begins there
+abbrev pub first_hole_code : List Instr
+first_hole_code = Lui 5 (high_of control_address) ∷ Lui 6 (high_of heap_address) ∷ Store Sw 5 6 (pos 0) ∷ []
 
--- goes to the head of the entry, and has all routines behind that
+-- the region and the hole are told the bytes of the heap
+abbrev pub heap_size_code : Settings → List Instr
+heap_size_code settings = set_address 7 (heap_size settings) ++ (Store Sw 5 7 (pos 8) ∷ Store Sw 6 7 (pos 0) ∷ [])
+
+-- the region is told the bytes of the stack that the program gets, and that slot 1 is the least that was never issued
+abbrev pub stack_size_code : Settings → List Instr
+stack_size_code settings =
+    set_address 7 (1024 * settings.stack) ++ (Store Sw 5 7 (pos 12) ∷ Imm Addi 7 0 (pos 1) ∷ Store Sw 5 7 (pos 16) ∷ [])
+
+-- all of the heap becomes one hole
+abbrev pub heap_code : Settings → List Instr
+heap_code settings = first_hole_code ++ heap_size_code settings ++ stack_size_code settings
+
+-- sets x8 to the bottom of the stack and x2 to its top, and goes to an address
+abbrev pub stack_code : Settings → ℕ → List Instr
+stack_code settings to = set_address 8 (stack_address settings) ++ set_address 2 stack_top ++ go_by_register 0 to
+
+abbrev pub start_code : Settings → ℕ → List Instr
+start_code settings to = heap_code settings ++ stack_code settings to
+
+-- begins, goes to the head of the entry, and has all routines behind that
 unfoldable pub program_code : Layout → Addresses → Settings → Objects → Option (List Instr)
 program_code layout addresses settings objects =
     code_at

@@ -105,6 +105,9 @@ control_address = 0x08000000
 abbrev pub heap_address : ℕ
 heap_address = 0x10000000
 
+abbrev pub heap_size : Settings → ℕ
+heap_size settings = 1024 * settings.heap
+
 -- the stack of the settings, and 2,048 bytes for what runs below all routines
 abbrev pub stack_size : Settings → ℕ
 stack_size settings = 1024 * settings.stack + 2048
@@ -138,7 +141,7 @@ segments_of sizes settings =
     ∷ filled (constants_address sizes) sizes.constants sizes.constants 4
     ∷ filled (globals_address sizes) sizes.initial (sizes.initial + sizes.zeros) 6
     ∷ empty control_address 524312
-    ∷ empty heap_address (1024 * settings.heap)
+    ∷ empty heap_address (heap_size settings)
     ∷ empty (stack_address settings) (stack_size settings)
     ∷ []
 

@@ -56,9 +56,9 @@ routine_places known r spot (routine ∷ routines) =
     routine_place known r spot routine
     ∷ routine_places known (suc r) (behind_routine known r spot routine) routines
 
--- behind the six instructions with which a program begins
+-- behind the 18 instructions with which a program begins
 abbrev pub first_spot : Spot
-first_spot = record { longest = 0x00010018; address = 0x00010018 }
+first_spot = record { longest = 0x00010048; address = 0x00010048 }
 
 -- where everything stands, if these addresses are known
 unfoldable pub placement_by : List RoutinePlace → List ObjectRoutine → Placement

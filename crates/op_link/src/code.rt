@@ -36,7 +36,7 @@ pub(crate) const RETURN: u8 = 1;
 
 /// The upper part of a word that lui and addi set.
 #[tactic(auto, unfolding(crate::specs::Code::high_of))]
-fn high(n: u32) -> u32
+pub(crate) fn high(n: u32) -> u32
     ensures value { result ≡ high_of n }
     ensures fits { result < 2 ^ 20 }
 {

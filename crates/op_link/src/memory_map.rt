@@ -1,6 +1,6 @@
 //! Where the parts of a program lie in memory.
 ghost use Rattle.std.specs.Prelude.{◌≡◌, ◌+◌, ◌^◌, ◌<◌, ◌≤◌, IsTrue, length, nat_le};
-ghost use Rattle.op_link.specs.Memory.{are_in_range, constants_address, constants_size, empty, filled, globals_address, most_linked, page_up, segments_of, stack_address, stack_size};
+ghost use Rattle.op_link.specs.Memory.{are_in_range, constants_address, constants_size, empty, filled, globals_address, heap_size, most_linked, page_up, segments_of, stack_address, stack_size};
 
 use crate::table::Segment;
 use op_layout::Layout;
@@ -33,11 +33,12 @@ pub(crate) const CODE_ADDRESS: u32 = 0x0001_0000;
 const ADDRESS_FROM_OFFSET: u32 = 0xF000;
 
 /// Where the control region begins, and its size.
-const CONTROL_ADDRESS: u32 = 0x0800_0000;
+pub(crate) const CONTROL_ADDRESS: u32 = 0x0800_0000;
 
 const CONTROL_SIZE: u32 = 524_312;
 
-const HEAP_ADDRESS: u32 = 0x1000_0000;
+/// Where the heap begins.
+pub(crate) const HEAP_ADDRESS: u32 = 0x1000_0000;
 
 /// The first address behind the stack.
 pub(crate) const STACK_TOP: u32 = 0x7000_0000;
@@ -103,6 +104,14 @@ impl Settings {
         heap: 8192,
         stack: 1024,
     };
+
+    /// The bytes of the heap.
+    pub(crate) fn heap_size(&self) -> u32
+        requires { IsTrue (are_in_range self.now) }
+        ensures { result ≡ heap_size self.now }
+    {
+        1024 * self.heap
+    }
 
     /// The size of the stack's segment.
     fn stack_size(&self) -> u32
@@ -173,7 +182,7 @@ pub(crate) fn segments(sizes: &Sizes, settings: &Settings) -> [Segment; 6]
             READ_WRITE,
         ),
         empty(CONTROL_ADDRESS, CONTROL_SIZE),
-        empty(HEAP_ADDRESS, 1024 * settings.heap),
+        empty(HEAP_ADDRESS, settings.heap_size()),
         empty(settings.stack_address(), settings.stack_size()),
     ]
 }

@@ -34,8 +34,8 @@ pub struct Spot {
     pub address: u32,
 }
 
-/// The address behind the six instructions with which a program begins.
-const BEGINNING: u32 = 0x0001_0018;
+/// The address behind the 18 instructions with which a program begins.
+const BEGINNING: u32 = 0x0001_0048;
 
 /// Where the first routine begins.
 pub(crate) fn first_spot() -> Spot

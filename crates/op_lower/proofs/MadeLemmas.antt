@@ -1,5 +1,5 @@
 -- What is made of the parts of an item is what the definition of code says of the item.
-use Rattle.std.proofs.Common.{◌≡◌, ℕ, suc, ◌+◌, ◌<◌, Bool, List, [], ◌∷◌, ◌++◌, length, map, sym, ap, ◌∙◌, arith, append_assoc, None, ◌≤◌, Result, Ok, Err, IfOk, reverse, ap₂}
+use Rattle.std.proofs.Common.{◌≡◌, ℕ, suc, ◌+◌, ◌<◌, Bool, List, [], ◌∷◌, ◌++◌, length, map, refl, sym, ap, ◌∙◌, arith, append_assoc, None, ◌≤◌, Result, Ok, Err, IfOk, reverse, ap₂}
 use Rattle.std.proofs.lemmas.List.{append-nil, map-append, map-set, length-map, length-append, length-set, length_push, reverse-append, take-set, take_all, take_more}
 use Rattle.std.proofs.Math.Nat.{add-zero}
 use Rattle.std.proofs.Math.Seq.{set-append_seam}
@@ -12,22 +12,24 @@ use Rattle.op_items.proofs.Nodes.{item_nodes, items_behind}
 use Rattle.op_items.specs.View.{item_view, items_view, cases_view, turns_view}
 use Rattle.op_items.specs.declared.item.Case.{Case}
 use Rattle.op_items.specs.declared.item.Item.{Item}
-use Rattle.op_items.specs.declared.item.Item.TheVariants.{Also, BodyFirst, Choose, Leave, Loop, Protect, Select}
+use Rattle.op_items.specs.declared.item.Item.TheVariants.{Also, BodyFirst, Choose, Leave, Loop, Protect, Scoped, Select}
 use Rattle.op_items.specs.declared.item.Turns.{Turns}
 use Rattle.op_items.specs.declared.item.Way.{Way}
 use Rattle.op_lower.specs.Exits.{exits_of, reason_of}
 use Rattle.op_lower.specs.Made.{Adds, Makes, MakesArms, Completes, CompletesArms, IsBody, items_made, item_made, branch_made, arms_made, loop_made, finally_made}
 use Rattle.op_lower.specs.Seen.{seen, seen_blocks}
 use Rattle.op_lower.specs.declared.exits.Exits.{Exits}
-use Rattle.op_meaning.specs.Items.{Items, none, then_do, Cases, ◌&◌, only, Item as MeantItem, also, choose, select, loop, body_first, protect}
-use Rattle.op_mir.specs.Code.{Instr, jump, unless, switch, dispatch, Made, Exits as MeantExits, code, code_item, code_cases, Arm as MeantArm, loop_exits, continued, branch_unless, branch_if}
-use Rattle.op_mir.specs.View.{view_arm, view_block}
+use Rattle.op_meaning.specs.Items.{Items, none, then_do, Cases, ◌&◌, only, Item as MeantItem, also, choose, select, loop, body_first, protect, scoped}
+use Rattle.op_meaning.specs.World.{Temporary as MeantTemporary}
+use Rattle.op_mir.specs.Code.{Instr, jump, unless, switch, dispatch, open_temporaries, end_temporary, ends, scope_exits, Made, Exits as MeantExits, code, code_item, code_cases, Arm as MeantArm, loop_exits, continued, branch_unless, branch_if}
+use Rattle.op_mir.specs.View.{view_arm, view_block, view_temporary}
 use Rattle.op_mir.specs.declared.code.Block.{Block}
 use Rattle.op_mir.specs.declared.ids.BlockId.{BlockId}
 use Rattle.op_mir.specs.declared.ids.TemporaryId.{TemporaryId}
 use Rattle.op_mir.specs.declared.instruction.Arm.{Arm}
 use Rattle.op_mir.specs.declared.instruction.Instruction.{Instruction}
-use Rattle.op_mir.specs.declared.instruction.Instruction.TheVariants.{Jump, Switch, Dispatch}
+use Rattle.op_mir.specs.declared.instruction.Instruction.TheVariants.{Jump, Switch, Dispatch, OpenTemporaries, EndTemporary}
+use Rattle.op_mir.specs.declared.temporary.Temporary.{Temporary}
 
 abbrev pub Blocks : Type 0
 Blocks = List (List Instr)
@@ -182,6 +184,39 @@ loop_adds exits within l behind made_behind head at_body on old b1 b2 b3 b4 b5 t
     seen_filled core r b4 b5 head.0 now (V ++ B ∷ []) [] rest v4 place f
     ∙ append_assoc V (B ∷ []) (seen core r now ∷ rest)
     ∙ ap₂ (λ x xs. V ++ B ∷ x ∷ c.now ∷ xs) m3.0 (append_assoc c.blocks b.blocks a.blocks)
+
+-- ---- temporaries that end
+
+-- one more ends last in front of the code
+pub ends_last : (ts : List MeantTemporary) (t : MeantTemporary) (behind : List Instr) → ends (ts ++ t ∷ []) behind ≡ ends ts (end_temporary t ∷ behind)
+ends_last [] t behind = refl
+ends_last (u ∷ ts) t behind = ap (λ x. end_temporary u ∷ x) (ends_last ts t behind)
+
+-- the last one of those that are left is put in front
+pub end_put : (core : Core) (r : ℕ) (rest front : List Temporary) (last : Temporary) (now new : List Instruction) (whole : List Instr) → rest ≡ front ++ last ∷ [] → new ≡ EndTemporary last ∷ now → ends (map view_temporary rest) (seen core r now) ≡ whole → ends (map view_temporary front) (seen core r new) ≡ whole
+end_put core r rest front last now new whole e put h =
+    ap (λ x. ends (map view_temporary front) (seen core r x)) put
+    ∙ sym (ends_last (map view_temporary front) (view_temporary last) (seen core r now))
+    ∙ ap (λ ts. ends ts (seen core r now)) (sym (map-append view_temporary front (last ∷ [])) ∙ ap (map view_temporary) (sym e))
+    ∙ h
+
+-- and where none is left, all are
+pub ended_all : (core : Core) (r : ℕ) (rest : List Temporary) (now : List Instruction) (whole : List Instr) → length rest ≡ 0 → ends (map view_temporary rest) (seen core r now) ≡ whole → seen core r now ≡ whole
+ended_all core r [] now whole over h = h
+ended_all core r (t ∷ ts) now whole over h = absurd (omega (arith, over))
+
+-- what leaves a scope ends its temporaries, and opens none
+pub scope_put : (core : Core) (r : ℕ) (ts : List MeantTemporary) (opened : List Temporary) (old ended new : List Instruction) → opened ≡ [] → seen core r ended ≡ ends ts (seen core r old) → new ≡ OpenTemporaries opened ∷ ended → seen core r new ≡ open_temporaries [] ∷ ends ts (seen core r old)
+scope_put core r ts opened old ended new e h put = ap (seen core r) put ∙ ap₂ (λ us x. open_temporaries (map view_temporary us) ∷ x) e h
+
+pub scoped_makes : (exits within : Exits) (first : Temporary) (others all : List Temporary) (items : List Item) (behind ended now front : List Instruction) (old new : List Block) → all ≡ first ∷ others → exits_of within ≡ scope_exits (exits_of exits) (map view_temporary all) → ((core : Core) (r : ℕ) → seen core r ended ≡ ends (map view_temporary all) (seen core r behind)) → Makes (items_made within items old ended) old new now → front ≡ OpenTemporaries all ∷ now → Makes (item_made exits (λ core r. scoped (view_temporary first) (map view_temporary others) (items_view core r items)) old behind) old new front
+scoped_makes exits within first others all items behind ended now front old new is w end makes put = λ core r.
+    let ts = map view_temporary (first ∷ others) in
+    let made : MeantExits → List Instr → Made = λ out. code out (items_view core r items) (length old) in
+    let out = w ∙ ap (λ xs. scope_exits (exits_of exits) (map view_temporary xs)) is in
+    let after = end core r ∙ ap (λ xs. ends (map view_temporary xs) (seen core r behind)) is in
+    let m = as_made (made (exits_of within) (seen core r ended)) (made (scope_exits (exits_of exits) ts) (ends ts (seen core r behind))) (seen core r now) (seen_blocks core r new) (seen_blocks core r old) (seen_blocks core r old) (ap₂ made out after) refl (makes core r) in
+    (ap (seen core r) put ∙ ap₂ (λ xs x. open_temporaries (map view_temporary xs) ∷ x) is m.0, m.1)
 
 -- ---- finally parts
 
@@ -357,6 +392,11 @@ pub protect_is : {R E : Type 0} (exits : Exits) (item : Item) (t found_t : Tempo
 protect_is exits item t found_t items found finalization found_finalization old new behind now result e p q s h =
     item_is exits (λ core r. item_view core r item) (λ core r. protect found_t.0 (items_view core r found.items) (items_view core r found_finalization.items)) old new behind now result
     (λ core r. ap (item_view core r) e ∙ (item_nodes core r).protect_says t items finalization ∙ ap₃ (λ x y z. protect x.0 (items_view core r y.items) (items_view core r z.items)) (sym p) (sym q) (sym s)) h
+
+pub scoped_is : {R E : Type 0} (exits : Exits) (item : Item) (first found_first : Temporary) (others found_others : List Temporary) (items found : Vec Item Global) (old new : List Block) (behind now : List Instruction) (result : Result R E) → item ≡ Scoped first others items → found_first ≡ first → found_others ≡ others → found ≡ items → MadeFor exits (λ core r. scoped (view_temporary found_first) (map view_temporary found_others) (items_view core r found.items)) old new behind now result → MadeFor exits (λ core r. item_view core r item) old new behind now result
+scoped_is exits item first found_first others found_others items found old new behind now result e p q s h =
+    item_is exits (λ core r. item_view core r item) (λ core r. scoped (view_temporary found_first) (map view_temporary found_others) (items_view core r found.items)) old new behind now result
+    (λ core r. ap (item_view core r) e ∙ (item_nodes core r).scoped_says first others items ∙ ap₃ (λ x y z. scoped (view_temporary x) (map view_temporary y) (items_view core r z.items)) (sym p) (sym q) (sym s)) h
 
 pub leave_makes : {R E : Type 0} (exits : Exits) (item : Item) (way found : Way) (old : List Block) (behind now : List Instruction) (result : Result R E) → item ≡ Leave way → found ≡ way → IfOk result (λ _. (core : Core) (r : ℕ) → seen core r now ≡ exits_of exits (reason_of found)) → MadeFor exits (λ core r. item_view core r item) old old behind now result
 leave_makes exits item way found old behind now (Ok done) e p h = λ core r.

@@ -6,11 +6,12 @@ use Rattle.op_items.proofs.Nodes.{item_nodes}
 use Rattle.op_items.specs.View.{item_view, items_view, cases_view, turns_view}
 use Rattle.op_items.specs.declared.item.Case.{Case}
 use Rattle.op_items.specs.declared.item.Item.{Item}
-use Rattle.op_items.specs.declared.item.Item.TheVariants.{Also, Choose, Select, Loop, BodyFirst, Protect}
+use Rattle.op_items.specs.declared.item.Item.TheVariants.{Also, Choose, Select, Loop, BodyFirst, Protect, Scoped}
 use Rattle.op_items.specs.declared.item.Turns.{Turns}
 use Rattle.op_lower.proofs.MadeLemmas.{no_tables}
-use Rattle.op_meaning.specs.Items.{Item as MeantItem, also, choose, select, loop, body_first, protect, Items, none, then_do, Turns as MeantTurns, turns, Cases, no_cases, cases}
+use Rattle.op_meaning.specs.Items.{Item as MeantItem, also, choose, select, loop, body_first, protect, scoped, Items, none, then_do, Turns as MeantTurns, turns, Cases, no_cases, cases}
 use Rattle.op_mir.specs.declared.ids.TemporaryId.{TemporaryId}
+use Rattle.op_mir.specs.declared.temporary.Temporary.{Temporary}
 
 abbrev mutual
   in_item : MeantItem → ℕ
@@ -20,6 +21,7 @@ abbrev mutual
   in_item (loop l) = suc (in_turns l)
   in_item (body_first l) = suc (in_turns l)
   in_item (protect t items finalization) = suc (in_items items + in_items finalization)
+  in_item (scoped t ts items) = suc (in_items items)
   in_item _ = 0
 
   in_items : Items → ℕ
@@ -70,6 +72,10 @@ body_first_size i l e = ap (λ x. in_item (item_view no_tables 0 x)) e ∙ ap in
 pub protect_size : (i : Item) (t : TemporaryId) (items finalization : Vec Item Global) → i ≡ Protect t items finalization → item_size i ≡ suc (size items.items + size finalization.items)
 unfolding item_size size
 protect_size i t items finalization e = ap (λ x. in_item (item_view no_tables 0 x)) e ∙ ap in_item ((item_nodes no_tables 0).protect_says t items finalization)
+
+pub scoped_size : (i : Item) (t : Temporary) (ts : List Temporary) (items : Vec Item Global) → i ≡ Scoped t ts items → item_size i ≡ suc (size items.items)
+unfolding item_size size
+scoped_size i t ts items e = ap (λ x. in_item (item_view no_tables 0 x)) e ∙ ap in_item ((item_nodes no_tables 0).scoped_says t ts items)
 
 pub size_of_turns : (l : Turns) → turns_size l ≡ size l.head.items + size l.between.items + size l.body.items
 unfolding turns_size size

@@ -5,16 +5,16 @@ use Rattle.op_mir.specs.declared.action.Action.TheVariants.{Constant, Load, Stor
 use Rattle.op_mir.specs.declared.action.Computation.{Computation}
 use Rattle.op_mir.specs.declared.action.Computation.TheVariants.{Arithmetic, Compare, Negate, Complement, Invert, Absolute, Odd, Upper, LowBits, Check, Neighbour, Single, Span, Combine, Contains, CheckSet}
 use Rattle.op_mir.specs.declared.action.Destination.{Destination}
-use Rattle.op_mir.specs.declared.action.Destination.TheVariants.{Unused, InTemporary}
+use Rattle.op_mir.specs.declared.action.Destination.TheVariants.{Unused, InTemporary, InNew, IntoPlace, OverPlace}
 use Rattle.op_mir.specs.declared.action.Operand.{Operand}
-use Rattle.op_mir.specs.declared.action.Operand.TheVariants.{Number, Literal}
+use Rattle.op_mir.specs.declared.action.Operand.TheVariants.{Number, Text, Literal}
 use Rattle.op_mir.specs.declared.code.Block.{Block}
 use Rattle.op_mir.specs.declared.ids.TemporaryId.{TemporaryId}
 use Rattle.op_mir.specs.declared.instruction.Call.{Call as Operands}
 use Rattle.op_mir.specs.declared.instruction.Given.{Given}
 use Rattle.op_mir.specs.declared.instruction.Given.TheVariants.{ByValue, ByPlace, ByCopy}
 use Rattle.op_mir.specs.declared.instruction.Instruction.{Instruction}
-use Rattle.op_mir.specs.declared.instruction.Instruction.TheVariants.{Act, Call, Jump, When, Unless, Switch, Dispatch, MakeDue, Stop, Return}
+use Rattle.op_mir.specs.declared.instruction.Instruction.TheVariants.{Act, Call, Jump, When, Unless, Switch, Dispatch, MakeDue, OpenTemporaries, EndTemporary, Stop, Return}
 use Rattle.op_mir.specs.declared.instruction.Receiver.{Receiver}
 use Rattle.op_mir.specs.declared.instruction.Receiver.TheVariants.{Nowhere, Temporary as ToTemporary, Place}
 use Rattle.op_mir.specs.declared.path.Path.{Path}
@@ -68,11 +68,15 @@ in_computation (CheckSet all to a) = up_to_both to a
 
 unfoldable pub in_operand : Operand → ℕ
 in_operand (Number t) = up_to t
+in_operand (Text path) = in_path path
 in_operand (Literal text) = 0
 
 unfoldable pub in_destination : Destination → ℕ
 in_destination Unused = 0
 in_destination (InTemporary t) = up_to t
+in_destination (InNew of n) = 0
+in_destination (IntoPlace of to old) = in_path to
+in_destination (OverPlace to) = in_path to
 
 abbrev pub in_move : TemporaryId → Path → ℕ
 in_move t path = max (up_to t) (in_path path)
@@ -113,6 +117,8 @@ in_instruction (Unless t block) = up_to t
 in_instruction (Switch t arms) = up_to t
 in_instruction (Dispatch t block) = up_to t + 1
 in_instruction (MakeDue f) = 0
+in_instruction (OpenTemporaries ts) = 0
+in_instruction (EndTemporary t) = 0
 in_instruction (Stop t) = up_to t
 in_instruction Return = 0
 

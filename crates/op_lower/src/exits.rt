@@ -1,14 +1,15 @@
 //! Where Exit, Break and Continue lead.
-ghost use Rattle.std.specs.Prelude.{◌≡◌, ℕ, suc, pos, IfOk};
+ghost use Rattle.std.specs.Prelude.{◌≡◌, ℕ, suc, [], ◌∷◌, map, pos, IfOk};
 ghost use Rattle.op_core.specs.declared.program.Core.{Core};
-ghost use Rattle.op_mir.specs.Code.{finally_exits};
+ghost use Rattle.op_mir.specs.Code.{ends, finally_exits, open_temporaries};
+ghost use Rattle.op_mir.specs.View.{view_temporary};
 ghost use Rattle.op_lower.specs.Exits.{exits_of, reason_of};
 ghost use Rattle.op_lower.specs.Seen.{seen};
 
 use crate::instructions::Instructions;
-use op_base::NoMemory;
+use op_base::{NoMemory, Sequence};
 use op_items::Way;
-use op_mir::{Action, BlockId, Instruction, TemporaryId};
+use op_mir::{Action, BlockId, Instruction, Temporary, TemporaryId};
 use std::alloc::Global;
 
 /// What stands round the code that is made, as far as it is left.
@@ -20,6 +21,11 @@ pub enum Exits<'a> {
     Loop {
         around: &'a Exits<'a>,
         behind: BlockId,
+    },
+    /// Items within something else that may make these temporaries: they end in this order, and then it is left.
+    Scope {
+        around: &'a Exits<'a>,
+        temporaries: &'a [Temporary],
     },
     /// A part with a finally part, which is the block of this number: the reason is put into the temporary.
     Finally {
@@ -40,6 +46,14 @@ impl Exits<'_> {
                 Way::Break => Instructions::jump(alloc, *behind),
                 Way::Continue => Instructions::jump(alloc, following(*behind)?),
             },
+            Exits::Scope {
+                around,
+                temporaries,
+            } => {
+                let mut code = around.leave(alloc, way)?;
+                end_scope(alloc, temporaries, &mut code)?;
+                Ok(code)
+            }
             Exits::Finally {
                 reason,
                 finalization,
@@ -56,6 +70,22 @@ fn following(block: BlockId) -> Result<BlockId, NoMemory>
         None => Err(NoMemory),
         Some(number) => Ok(BlockId(number)),
     }
+}
+
+/// Puts in front of code that leaves what ends temporaries, in this order. None is open any more that could be made.
+#[inline(never)]
+fn end_scope(
+    alloc: Global,
+    temporaries: &[Temporary],
+    code: &mut Instructions,
+) -> Result<(), NoMemory>
+    ensures { IfOk result (λ _. (core : Core) (r : ℕ) → seen core r code.new ≡ open_temporaries [] ∷ ends (map view_temporary temporaries.now) (seen core r code.old)) }
+{
+    code.end(temporaries)?;
+    code.put(Instruction::OpenTemporaries {
+        temporaries: Sequence::from(Vec::new(alloc)),
+    })?;
+    Ok(())
 }
 
 /// The code that leaves a part with a finally part.

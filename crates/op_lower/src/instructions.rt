@@ -1,11 +1,12 @@
 //! Code that is made from its last instruction on.
-ghost use Rattle.std.specs.Prelude.{◌≡◌, ℕ, [], ◌∷◌, IfOk, IfSome, MatchOption};
+ghost use Rattle.std.specs.Prelude.{◌≡◌, ℕ, [], ◌∷◌, map, IfOk, IfSome, MatchOption};
 ghost use Rattle.op_core.specs.declared.program.Core.{Core};
-ghost use Rattle.op_mir.specs.Code.{continued, jump};
+ghost use Rattle.op_mir.specs.Code.{continued, ends, jump};
+ghost use Rattle.op_mir.specs.View.{view_temporary};
 ghost use Rattle.op_lower.specs.Seen.{seen};
 
 use op_base::{NoMemory, Sequence};
-use op_mir::{Block, BlockId, Instruction};
+use op_mir::{Block, BlockId, Instruction, Temporary};
 use std::alloc::Global;
 use std::marker::Model;
 use std::mem::replace;
@@ -50,6 +51,19 @@ impl Instructions {
         ensures { IfOk result (λ _. self.new ≡ first ∷ self.old) }
     {
         self.reversed.push(first)?;
+        Ok(())
+    }
+
+    /// Puts in front what ends temporaries, in this order.
+    #[inline(never)]
+    pub fn end(&mut self, temporaries: &[Temporary]) -> Result<(), NoMemory>
+        ensures { IfOk result (λ _. (core : Core) (r : ℕ) → seen core r self.new ≡ ends (map view_temporary temporaries.now) (seen core r self.old)) }
+    {
+        let mut rest = temporaries;
+        while let Some((last, front)) = rest.split_last() {
+            self.put(Instruction::EndTemporary { temporary: *last })?;
+            rest = front;
+        }
         Ok(())
     }
 

@@ -1,9 +1,10 @@
 //! From items to instructions and blocks.
-ghost use Rattle.std.specs.Prelude.{◌≡◌, ◌<◌, ℕ, ◌+◌, ◌-◌, ◌∷◌, [], IfOk, None, length, pos, take};
+ghost use Rattle.std.specs.Prelude.{◌≡◌, ◌<◌, ℕ, ◌+◌, ◌-◌, ◌∷◌, [], IfOk, None, length, map, pos, take};
 ghost use Rattle.op_core.specs.declared.program.Core.{Core};
 ghost use Rattle.op_items.specs.View.{item_view, items_view, turns_view, cases_view};
-ghost use Rattle.op_meaning.specs.Items.{also as and_also, choose as choice, select as selection, loop, body_first, protect as protected};
+ghost use Rattle.op_meaning.specs.Items.{also as and_also, choose as choice, select as selection, loop, body_first, protect as protected, scoped as within_scope};
 ghost use Rattle.op_mir.specs.Code.{branch_if as meant_if, branch_unless as meant_unless};
+ghost use Rattle.op_mir.specs.View.{view_temporary};
 ghost use Rattle.op_lower.specs.Exits.{exits_of, reason_of};
 ghost use Rattle.op_lower.specs.Made.{Adds, Makes, MakesArms, IsBody, items_made, item_made, branch_made, arms_made, loop_made, finally_made};
 ghost use Rattle.op_lower.specs.Seen.{seen};
@@ -14,7 +15,7 @@ use crate::instructions::Instructions;
 use op_base::{NoMemory, Sequence};
 use op_core::RoutineId;
 use op_items::{Case, Item, Turns, Way};
-use op_mir::{Action, Arm, BlockId, Call, Given, Instruction, Receiver, TemporaryId};
+use op_mir::{Action, Arm, BlockId, Call, Given, Instruction, Receiver, Temporary, TemporaryId};
 use std::alloc::Global;
 use std::mem::replace;
 
@@ -87,6 +88,11 @@ fn code_item(
             receiver,
         } => enter(alloc, *routine, given, receiver, now),
         Item::Halt { status } => halt(*status, now),
+        Item::Scoped {
+            first,
+            others,
+            items,
+        } => scoped(alloc, blocks, exits, *first, others, items, now),
         Item::Attempt { .. } => Ok(now.clear()),
         Item::AttemptAll { .. } => Ok(now.clear()),
         Item::Throw { .. } => Ok(now.clear()),
@@ -377,6 +383,48 @@ fn body_block(
     let on = now.reached_by(made.body);
     blocks.fill(made.body, now);
     Ok(on)
+}
+
+// ---- temporaries that end
+
+/// The first one and the others, which are taken, as one list.
+#[inline(never)]
+fn listed(
+    alloc: Global,
+    first: Temporary,
+    others: &mut Sequence<Temporary>,
+) -> Result<Sequence<Temporary>, NoMemory>
+    ensures { IfOk result (λ all. all ≡ first ∷ others.old) }
+{
+    let mut all = replace(others, Sequence::from(Vec::new(alloc))).into_vec();
+    all.insert(0, first)?;
+    Ok(Sequence::from(all))
+}
+
+/// Items that may make temporaries, which end in this order behind them and where they are left.
+#[cycle(items)]
+#[inline(never)]
+fn scoped(
+    alloc: Global,
+    blocks: &mut Blocks,
+    exits: &Exits,
+    first: Temporary,
+    others: &mut Sequence<Temporary>,
+    items: &mut Vec<Item>,
+    now: &mut Instructions,
+) -> Result<(), NoMemory>
+    ensures { IfOk result (λ _. Makes (item_made exits.now (λ core r. within_scope (view_temporary first) (map view_temporary others.old) (items_view core r items.old.items)) blocks.old now.old) blocks.old blocks.new now.new) }
+{
+    let temporaries = listed(alloc, first, others)?;
+    let all = temporaries.as_slice();
+    now.end(all)?;
+    let within = Exits::Scope {
+        around: &*exits,
+        temporaries: all,
+    };
+    code(alloc, blocks, &within, items, now)?;
+    now.put(Instruction::OpenTemporaries { temporaries })?;
+    Ok(())
 }
 
 // ---- finally parts

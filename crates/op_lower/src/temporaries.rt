@@ -46,6 +46,8 @@ fn in_instruction(instruction: &Instruction) -> u64
             block: _,
         } => up_to_next(*temporary),
         Instruction::MakeDue { finalization: _ } => 0,
+        Instruction::OpenTemporaries { temporaries: _ } => 0,
+        Instruction::EndTemporary { temporary: _ } => 0,
         Instruction::Stop { status } => up_to(*status),
         Instruction::Return => 0,
     }
@@ -102,7 +104,7 @@ fn in_action(action: &Action) -> u64
             primitive: _,
             operands,
             to,
-        } => in_operands(operands.as_slice()).max(in_destination(*to)),
+        } => in_operands(operands.as_slice()).max(in_destination(to)),
     }
 }
 
@@ -191,17 +193,21 @@ fn in_operand(operand: &Operand) -> u64
 {
     match operand {
         Operand::Number(temporary) => up_to(*temporary),
+        Operand::Text(path) => in_path(path),
         Operand::Literal(_) => 0,
     }
 }
 
 #[tactic(auto, unfolding(crate::specs::Temporaries::in_destination))]
-fn in_destination(to: Destination) -> u64
-    ensures { result ≡ in_destination to }
+fn in_destination(to: &Destination) -> u64
+    ensures { result ≡ in_destination to.now }
 {
     match to {
         Destination::Unused => 0,
-        Destination::InTemporary(temporary) => up_to(temporary),
+        Destination::InTemporary(temporary) => up_to(*temporary),
+        Destination::InNew { of: _, number: _ } => 0,
+        Destination::IntoPlace { of: _, to, old: _ } => in_path(to),
+        Destination::OverPlace { to } => in_path(to),
     }
 }
 

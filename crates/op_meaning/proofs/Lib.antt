@@ -6,10 +6,11 @@ pub mod Programs
 pub mod SetBits
 mod RunsCalls
 mod RunsFinally
-mod RunsHeld
+pub mod RunsHeld
 mod RunsLoops
 mod RunsNumbers
 mod RunsParts
 mod RunsSets
 mod RunsSteps
+mod RunsTexts
 pub mod RunsWhole

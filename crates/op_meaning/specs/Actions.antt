@@ -9,11 +9,11 @@ use Rattle.op_core.specs.declared.program.Core.{Core}
 use Rattle.op_core.specs.declared.types.IntegerKind.{IntegerKind}
 use Rattle.op_meaning.specs.Errors.{failed}
 use Rattle.op_meaning.specs.Numbers.{between, wrapped, fits_word, exact, divides, compared, low_bits_of, upper_case, is_true}
-use Rattle.op_meaning.specs.Paths.{Path, place_of}
+use Rattle.op_meaning.specs.Paths.{Path, at_place, place_of}
 use Rattle.op_meaning.specs.Primitives.{Destination, Operand, meaning, performed, signature, values_of}
 use Rattle.op_meaning.specs.Sets.{truth, bit, set_of, without, combined, is_element}
 use Rattle.op_meaning.specs.Shapes.{first_of}
-use Rattle.op_meaning.specs.Values.{Place, Reached, reached, failing, number, local, all_of, number_in}
+use Rattle.op_meaning.specs.Values.{and_then, number, local, all_of, number_in}
 use Rattle.op_meaning.specs.World.{World, with_number, number_at, value_at, with_value}
 use Rattle.op_meaning.specs.declared.primitive.Primitive.{Primitive}
 use Rattle.op_tree.specs.declared.operator.Operator.{Operator}
@@ -57,11 +57,6 @@ pub data Action : Type 0 where
   -- ---- what a run-time routine does
   primitive : (p : Primitive) → (operands : List Operand) → (to : Destination) → Action
 
--- what is done at a place, or the error that is met on the way there
-abbrev pub at_place : Core → Reached Place → (Place → World) → World → World
-at_place core (failing error) f w = failed core error w
-at_place core (reached p) f w = f p
-
 -- the low 32 bits of a result, or error 215 where Q is on and it has more
 abbrev pub computed : Core → Bool → ℕ → ℤ → World → World
 computed core checked to n w = if checked && not (fits_word n) then failed core 215 w else with_number to (wrapped n) w
@@ -78,28 +73,29 @@ within core low high to n w = if between low high n then with_number to n w else
 abbrev pub picked : Core → ℕ → List ℕ → ℤ → World → World
 picked core to text n w = if between (pos 1) (pos (length text)) n then with_number to (pos (slice_index text (nat_abs (n -ℤ pos 1)))) w else failed core 201 w
 
-unfoldable pub perform : Core → Action → World → World
-perform core (constant to n) w = with_number to (wrapped n) w
-perform core (load to kind from) w = at_place core (place_of w from) (λ p. with_number to (number_in (value_at w p)) w) w
-perform core (store to kind from) w = at_place core (place_of w to) (λ p. with_value p (number (low_bits_of kind (number_at w from))) w) w
-perform core (copy of to from) w = at_place core (place_of w from) (λ q. at_place core (place_of w to) (λ p. with_value p (value_at w q) w) w) w
-perform core (look at) w = at_place core (place_of w at) (λ p. w) w
-perform core (begin_with v of value) w = with_value (all_of (local w.depth v)) (first_of core of value) w
-perform core (pick to text index) w = picked core to text (number_at w index) w
-perform core (arithmetic o checked to a b) w = calculated core o checked to (number_at w a) (number_at w b) w
-perform core (compare o to a b) w = with_number to (truth (compared o (number_at w a) (number_at w b))) w
-perform core (negate checked to a) w = computed core checked to (neg_ℤ (number_at w a)) w
-perform core (complement to a) w = with_number to (int_bit_not w32 (number_at w a)) w
-perform core (invert to a) w = with_number to (truth (not (is_true (number_at w a)))) w
-perform core (absolute checked to a) w = computed core checked to (pos (unsigned_abs (number_at w a))) w
-perform core (odd to a) w = with_number to (truth (bit (number_at w a) 0)) w
-perform core (upper to a) w = with_number to (upper_case (number_at w a)) w
-perform core (low_bits kind to a) w = with_number to (low_bits_of kind (number_at w a)) w
-perform core (check low high to a) w = within core low high to (number_at w a) w
-perform core (neighbour distance low high to a) w = within core low high to (number_at w a +ℤ distance) w
-perform core (single to a) w = with_number to (set_of (λ n. int_eq (pos n) (number_at w a))) w
-perform core (span to a b) w = with_number to (set_of (λ n. between (number_at w a) (number_at w b) (pos n))) w
-perform core (combine o to a b) w = with_number to (combined o (number_at w a) (number_at w b)) w
-perform core (contains to a b) w = with_number to (truth (is_element (number_at w a) (number_at w b))) w
-perform core (check_set all to a) w = if int_eq (without (number_at w a) all) (pos 0) then with_number to (number_at w a) w else failed core 201 w
-perform core (primitive p operands to) w = performed core to (meaning p (values_of w (signature p) operands)) w
+-- by how many places each name is held is told too
+unfoldable pub perform : Core → (held : ℕ → ℕ) → Action → World → World
+perform core held (constant to n) w = with_number to (wrapped n) w
+perform core held (load to kind from) w = at_place core (place_of w from) (λ p. with_number to (number_in (value_at w p)) w) w
+perform core held (store to kind from) w = at_place core (place_of w to) (λ p. with_value p (number (low_bits_of kind (number_at w from))) w) w
+perform core held (copy of to from) w = at_place core (place_of w from) (λ q. at_place core (place_of w to) (λ p. with_value p (value_at w q) w) w) w
+perform core held (look at) w = at_place core (place_of w at) (λ p. w) w
+perform core held (begin_with v of value) w = with_value (all_of (local w.depth v)) (first_of core of value) w
+perform core held (pick to text index) w = picked core to text (number_at w index) w
+perform core held (arithmetic o checked to a b) w = calculated core o checked to (number_at w a) (number_at w b) w
+perform core held (compare o to a b) w = with_number to (truth (compared o (number_at w a) (number_at w b))) w
+perform core held (negate checked to a) w = computed core checked to (neg_ℤ (number_at w a)) w
+perform core held (complement to a) w = with_number to (int_bit_not w32 (number_at w a)) w
+perform core held (invert to a) w = with_number to (truth (not (is_true (number_at w a)))) w
+perform core held (absolute checked to a) w = computed core checked to (pos (unsigned_abs (number_at w a))) w
+perform core held (odd to a) w = with_number to (truth (bit (number_at w a) 0)) w
+perform core held (upper to a) w = with_number to (upper_case (number_at w a)) w
+perform core held (low_bits kind to a) w = with_number to (low_bits_of kind (number_at w a)) w
+perform core held (check low high to a) w = within core low high to (number_at w a) w
+perform core held (neighbour distance low high to a) w = within core low high to (number_at w a +ℤ distance) w
+perform core held (single to a) w = with_number to (set_of (λ n. int_eq (pos n) (number_at w a))) w
+perform core held (span to a b) w = with_number to (set_of (λ n. between (number_at w a) (number_at w b) (pos n))) w
+perform core held (combine o to a b) w = with_number to (combined o (number_at w a) (number_at w b)) w
+perform core held (contains to a b) w = with_number to (truth (is_element (number_at w a) (number_at w b))) w
+perform core held (check_set all to a) w = if int_eq (without (number_at w a) all) (pos 0) then with_number to (number_at w a) w else failed core 201 w
+perform core held (primitive p operands to) w = performed core to (and_then (values_of held w (signature p) operands) (meaning p)) w

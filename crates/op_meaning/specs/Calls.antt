@@ -7,13 +7,12 @@ use Rattle.op_core.specs.declared.program.Core.{Core}
 use Rattle.op_core.specs.declared.routine.Role.{Role}
 use Rattle.op_core.specs.declared.routine.Role.TheVariants.{Plain, Constant, Parameter}
 use Rattle.op_core.specs.declared.routine.Variable.{Variable}
-use Rattle.op_meaning.specs.Actions.{at_place}
 use Rattle.op_meaning.specs.Expressions.{Env, first_here, result_of}
 use Rattle.op_meaning.specs.Frames.{Program, StateOver, CallerOver, Rules, charged_for, discharged, with_world, with_frames, at_reached, Callee, a_routine, a_maker, Handed, a_value, a_place, calling, construction}
 use Rattle.op_meaning.specs.Holding.{searching}
 use Rattle.op_meaning.specs.Items.{Given, by_value, by_place, by_copy, Receiver, nowhere, to_temp, to_place, Task, ending, onto}
 use Rattle.op_meaning.specs.Numbers.{low_bits_of}
-use Rattle.op_meaning.specs.Paths.{place_of}
+use Rattle.op_meaning.specs.Paths.{at_place, place_of}
 use Rattle.op_meaning.specs.Shapes.{zero_of, variables_of, type_of_local, result_of_routine, is_managed, is_reference, zero_instance}
 use Rattle.op_meaning.specs.Statements.{work_of_all, first_items}
 use Rattle.op_meaning.specs.Values.{Value, number, Holder, local, temporary, Place, all_of, number_in, instance, object, Spot, Reached, reached, and_then}

@@ -13,9 +13,11 @@ use Rattle.op_meaning.specs.Frames.{Program, State, Frame, Caller}
 use Rattle.op_meaning.specs.Items.{Given, by_value, by_place, by_copy, Item, act, also, choose, select, loop, body_first, protect, leave, enter, scoped, attempt, throw, rethrow, halt, construct, free, Items, none, then_do, Turns, turns, Cases, no_cases, cases, Clauses, no_clauses, for_others, clauses, Task, item, mark, turn, finally, resume, catching, scope, handling, leaving, ending, due}
 use Rattle.op_meaning.specs.Machine.{step}
 use Rattle.op_meaning.specs.Paths.{Path, Step, field, element}
-use Rattle.op_meaning.specs.Primitives.{bytes_besides, operands_bytes}
+use Rattle.op_meaning.specs.Primitives.{Destination, Operand, Values, bytes_handled, from_temp, in_new, in_temp, into_place, literal_text, over_place, signature, text_at, unused, values_of}
 use Rattle.op_meaning.specs.Statements.{work_of_all}
+use Rattle.op_meaning.specs.Values.{Reached, reached, failing}
 use Rattle.op_meaning.specs.World.{World, Ending, Running, Ended}
+use Rattle.op_meaning.specs.declared.primitive.Primitive.{Primitive}
 
 -- ---- bytes of values
 
@@ -31,80 +33,105 @@ is_element_step (element of low high t) = true
 abbrev pub indices : Path → ℕ
 indices path = numbers (length (filter is_element_step path.steps))
 
--- but for what is written
-abbrev pub action_bytes : Core → Action → ℕ
-action_bytes core (constant to n) = numbers 3
-action_bytes core (load to kind from) = numbers 1 + indices from
-action_bytes core (store to kind from) = numbers 1 + indices to
-action_bytes core (copy of to from) = size_of core of + indices to + indices from
-action_bytes core (look at) = indices at
-action_bytes core (begin_with v of value) = size_of core of
-action_bytes core (pick to text index) = numbers 3
-action_bytes core (arithmetic o checked to a b) = numbers 3
-action_bytes core (compare o to a b) = numbers 3
-action_bytes core (negate checked to a) = numbers 3
-action_bytes core (complement to a) = numbers 3
-action_bytes core (invert to a) = numbers 3
-action_bytes core (absolute checked to a) = numbers 3
-action_bytes core (odd to a) = numbers 3
-action_bytes core (upper to a) = numbers 3
-action_bytes core (low_bits kind to a) = numbers 3
-action_bytes core (check low high to a) = numbers 3
-action_bytes core (neighbour distance low high to a) = numbers 3
-action_bytes core (single to a) = numbers 3
-action_bytes core (span to a b) = numbers 3
-action_bytes core (combine o to a b) = numbers 3
-action_bytes core (contains to a b) = numbers 3
-action_bytes core (check_set all to a) = numbers 3
-action_bytes core (primitive p operands to) = bytes_besides p + operands_bytes operands
+-- ---- primitives
+
+abbrev operand_bytes : Operand → ℕ
+operand_bytes (from_temp t) = 0
+operand_bytes (text_at path) = indices path
+operand_bytes (literal_text bytes) = 0
+
+abbrev destination_bytes : Destination → ℕ
+destination_bytes unused = 0
+destination_bytes (in_temp t) = 0
+destination_bytes (in_new of n) = 0
+destination_bytes (into_place of to old) = numbers 1 + indices to
+destination_bytes (over_place to) = indices to
+
+-- an operand whose path fails has no value
+abbrev handled : (p : Primitive) → Reached (Values (signature p)) → ℕ
+handled p (reached vs) = bytes_handled p vs
+handled p (failing error) = 0
+
+-- by how many places a text is held decides nothing here
+abbrev pub primitive_bytes : World → Primitive → List Operand → Destination → ℕ
+primitive_bytes w p operands to = handled p (values_of (λ n. 0) w (signature p) operands) + sum_by operand_bytes operands + destination_bytes to
+
+-- ---- actions, items and tasks
+
+-- but for what is written or made
+abbrev pub action_bytes : Core → World → Action → ℕ
+action_bytes core w (constant to n) = numbers 3
+action_bytes core w (load to kind from) = numbers 1 + indices from
+action_bytes core w (store to kind from) = numbers 1 + indices to
+action_bytes core w (copy of to from) = size_of core of + indices to + indices from
+action_bytes core w (look at) = indices at
+action_bytes core w (begin_with v of value) = size_of core of
+action_bytes core w (pick to text index) = numbers 3
+action_bytes core w (arithmetic o checked to a b) = numbers 3
+action_bytes core w (compare o to a b) = numbers 3
+action_bytes core w (negate checked to a) = numbers 3
+action_bytes core w (complement to a) = numbers 3
+action_bytes core w (invert to a) = numbers 3
+action_bytes core w (absolute checked to a) = numbers 3
+action_bytes core w (odd to a) = numbers 3
+action_bytes core w (upper to a) = numbers 3
+action_bytes core w (low_bits kind to a) = numbers 3
+action_bytes core w (check low high to a) = numbers 3
+action_bytes core w (neighbour distance low high to a) = numbers 3
+action_bytes core w (single to a) = numbers 3
+action_bytes core w (span to a b) = numbers 3
+action_bytes core w (combine o to a b) = numbers 3
+action_bytes core w (contains to a b) = numbers 3
+action_bytes core w (check_set all to a) = numbers 3
+action_bytes core w (primitive p operands to) = primitive_bytes w p operands to
 
 abbrev pub given_bytes : Core → Given → ℕ
 given_bytes core (by_value kind t) = numbers 1
 given_bytes core (by_place path) = numbers 1 + indices path
 given_bytes core (by_copy of path) = size_of core of + indices path
 
-abbrev pub item_bytes : Core → Item → ℕ
-item_bytes core (act a) = action_bytes core a
-item_bytes core (also truth t items) = numbers 1
-item_bytes core (choose t first otherwise) = numbers 1
-item_bytes core (select t cs otherwise) = numbers 1
-item_bytes core (loop l) = numbers 1
-item_bytes core (body_first l) = numbers 1
-item_bytes core (protect t items finalization) = numbers 1
-item_bytes core (leave what) = numbers 1
-item_bytes core (enter r given receiver) = sum_by (given_bytes core) given
-item_bytes core (scoped t ts items) = numbers 1
-item_bytes core (attempt items cs) = numbers 1
-item_bytes core (throw at) = numbers 1 + indices at
-item_bytes core rethrow = numbers 1
-item_bytes core (halt t) = numbers 1
-item_bytes core (construct c r given receiver) = sum_by (given_bytes core) given
-item_bytes core (free takes_nil at) = numbers 1 + indices at
+abbrev pub item_bytes : Core → World → Item → ℕ
+item_bytes core w (act a) = action_bytes core w a
+item_bytes core w (also truth t items) = numbers 1
+item_bytes core w (choose t first otherwise) = numbers 1
+item_bytes core w (select t cs otherwise) = numbers 1
+item_bytes core w (loop l) = numbers 1
+item_bytes core w (body_first l) = numbers 1
+item_bytes core w (protect t items finalization) = numbers 1
+item_bytes core w (leave what) = numbers 1
+item_bytes core w (enter r given receiver) = sum_by (given_bytes core) given
+item_bytes core w (scoped t ts items) = numbers 1
+item_bytes core w (attempt items cs) = numbers 1
+item_bytes core w (throw at) = numbers 1 + indices at
+item_bytes core w rethrow = numbers 1
+item_bytes core w (halt t) = numbers 1
+item_bytes core w (construct c r given receiver) = sum_by (given_bytes core) given
+item_bytes core w (free takes_nil at) = numbers 1 + indices at
 
-abbrev pub task_bytes : Core → Task → ℕ
-task_bytes core (item i) = item_bytes core i
-task_bytes core (mark l) = numbers 1
-task_bytes core (turn l) = numbers 1
-task_bytes core (finally t finalization) = numbers 1
-task_bytes core (resume t) = numbers 1
-task_bytes core (catching cs) = numbers 1
-task_bytes core (scope t ts) = numbers 1
-task_bytes core (handling instance) = numbers 1
-task_bytes core (leaving reason) = numbers 1
-task_bytes core (ending variables result) = numbers 1
-task_bytes core (due f) = numbers 1
+abbrev pub task_bytes : Core → World → Task → ℕ
+task_bytes core w (item i) = item_bytes core w i
+task_bytes core w (mark l) = numbers 1
+task_bytes core w (turn l) = numbers 1
+task_bytes core w (finally t finalization) = numbers 1
+task_bytes core w (resume t) = numbers 1
+task_bytes core w (catching cs) = numbers 1
+task_bytes core w (scope t ts) = numbers 1
+task_bytes core w (handling instance) = numbers 1
+task_bytes core w (leaving reason) = numbers 1
+task_bytes core w (ending variables result) = numbers 1
+task_bytes core w (due f) = numbers 1
 
 abbrev result_bytes : Core → Option TypeId → ℕ
 result_bytes core None = 0
 result_bytes core (Some of) = size_of core of
 
 -- an activation that has nothing more to do moves its result
-abbrev pub work_bytes : Core → ℕ → List Task → ℕ
-work_bytes core r [] = result_bytes core (result_of (slice_get core.routines r))
-work_bytes core r (task ∷ work) = task_bytes core task
+abbrev pub work_bytes : Core → World → ℕ → List Task → ℕ
+work_bytes core w r [] = result_bytes core (result_of (slice_get core.routines r))
+work_bytes core w r (task ∷ work) = task_bytes core w task
 
 abbrev acting_bytes : Core → State → List Frame → ℕ
-acting_bytes core s [] = work_bytes core s.routine s.work
+acting_bytes core s [] = work_bytes core s.world s.routine s.work
 acting_bytes core s (frame ∷ rest) = numbers 1
 
 -- what is written, and what is read

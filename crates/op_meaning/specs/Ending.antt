@@ -21,7 +21,7 @@ use Rattle.op_tree.specs.declared.heading.RoutineKind.TheVariants.{Destructor}
 
 -- ---- walks: one place in a step; what is walked over is given up when its walk is done
 
-abbrev without_last : List Temporary → List Temporary
+abbrev pub without_last : List Temporary → List Temporary
 without_last [] = []
 without_last (t ∷ made) = made
 
@@ -36,27 +36,27 @@ walked rules (q ∷ qs) over waits rest s = ends_place rules q (with_frames (wal
 
 -- ---- destructions
 
-abbrev is_destructor_kind : RoutineKind → Bool
+abbrev pub is_destructor_kind : RoutineKind → Bool
 is_destructor_kind Destructor = true
 is_destructor_kind _ = false
 
-abbrev is_destructor : Option Routine → Bool
+abbrev pub is_destructor : Option Routine → Bool
 is_destructor None = false
 is_destructor (Some r) = is_destructor_kind r.kind
 
-abbrev destructor_among : Core → List Method → Option ℕ → Option ℕ
+abbrev pub destructor_among : Core → List Method → Option ℕ → Option ℕ
 destructor_among core [] above = above
 destructor_among core (m ∷ ms) above = if is_destructor (slice_get core.routines m.routine.0) then Some m.routine.0 else destructor_among core ms above
 
-abbrev destructor_by : (ClassId → Option ℕ) → Core → Option ClassRow → Option ℕ
-destructor_by inner core None = None
-destructor_by inner core (Some x) = destructor_among core (rows core.methods x.methods) (above x.ancestor)
-  where
-    above : Option ClassId → Option ℕ
-    above None = None
-    above (Some a) = inner a
+abbrev pub inherited : (ClassId → Option ℕ) → Option ClassId → Option ℕ
+inherited inner None = None
+inherited inner (Some a) = inner a
 
-abbrev destructor_within : ℕ → Core → ClassId → Option ℕ
+abbrev pub destructor_by : (ClassId → Option ℕ) → Core → Option ClassRow → Option ℕ
+destructor_by inner core None = None
+destructor_by inner core (Some x) = destructor_among core (rows core.methods x.methods) (inherited inner x.ancestor)
+
+abbrev pub destructor_within : ℕ → Core → ClassId → Option ℕ
 destructor_within zero core c = None
 destructor_within (suc n) core c = destructor_by (destructor_within n core) core (slice_get core.classes c.0)
 
@@ -67,11 +67,11 @@ destructor_of core c = destructor_within (suc (length core.classes)) core c
 abbrev pub in_phase : Phase → ℕ → World → World
 in_phase phase i w = with_object i (fields (class_of w i) phase) w
 
-abbrev enters_destroy : {Work Counts : Type 0} → Rules Work Counts → ℕ → Option ℕ → StateOver Work Counts → StateOver Work Counts
+abbrev pub enters_destroy : {Work Counts : Type 0} → Rules Work Counts → ℕ → Option ℕ → StateOver Work Counts → StateOver Work Counts
 enters_destroy rules i None s = s
 enters_destroy rules i (Some r) s = begun rules r nowhere (a_value (instance false (Some i)) ∷ []) s
 
-abbrev is_empty_value : Value → Bool
+abbrev pub is_empty_value : Value → Bool
 is_empty_value (number n) = true
 is_empty_value (parts count part) = not (any_below count (λ k. not (is_empty_value (part k))))
 is_empty_value (text empty) = true
@@ -96,7 +96,7 @@ destroyed rules i started true [] waits rest s =
 
 -- ---- the charge of a walk or a destruction is taken, and the instance is in destruction
 
-abbrev charged_world : Frame → World → World
+abbrev pub charged_world : Frame → World → World
 charged_world (walk places over waits) w = w
 charged_world (destruction i started entered places waits) w = in_phase Destruction i w
 charged_world (uncharged frame) w = w

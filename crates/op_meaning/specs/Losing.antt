@@ -44,7 +44,7 @@ loses_value rules v s = s
 -- ---- a place ends
 
 -- a record or an array with managed parts becomes a walk over these, and what is one value becomes empty and is lost
-abbrev ends_by : {Work Counts : Type 0} → Rules Work Counts → Shape → Spot → StateOver Work Counts → StateOver Work Counts
+abbrev pub ends_by : {Work Counts : Type 0} → Rules Work Counts → Shape → Spot → StateOver Work Counts → StateOver Work Counts
 ends_by rules composite q s = pushed (walk (spots_of rules.program.core q.of q.at) a_part) s
 ends_by rules shape q s = let v = value_at s.world q.at in loses_value rules v (with_world (with_value q.at (emptied v) s.world) s)
 

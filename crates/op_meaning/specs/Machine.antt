@@ -98,7 +98,7 @@ halts n s = closes (low_eight n) s.frames s
 -- ---- items
 
 unfoldable pub do_item : Program → Item → List Task → State → State
-do_item p (act a) work s = record s { world = perform p.core a s.world; work = work }
+do_item p (act a) work s = record s { world = perform p.core ((source_rules p).number s) a s.world; work = work }
 do_item p (also true t is) work s = with_work (tested s.world t (onto is work) work) s
 do_item p (also false t is) work s = with_work (tested s.world t work (onto is work)) s
 do_item p (choose t a b) work s = with_work (tested s.world t (onto a work) (onto b work)) s

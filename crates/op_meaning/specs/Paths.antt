@@ -5,6 +5,7 @@ use Rattle.std.specs.Prelude.{ℕ, ℤ, ◌-ℤ◌, nat_abs, List, [], ◌∷◌
 use Rattle.op_core.specs.declared.ids.TypeId.{TypeId}
 use Rattle.op_core.specs.declared.ids.VariableId.{VariableId}
 use Rattle.op_core.specs.declared.program.Core.{Core}
+use Rattle.op_meaning.specs.Errors.{failed}
 use Rattle.op_meaning.specs.Numbers.{between}
 use Rattle.op_meaning.specs.Shapes.{is_local, refers, variables_of}
 use Rattle.op_meaning.specs.Values.{Place, Reached, reached, failing, global, local, temporary, all_of, part_at}
@@ -57,3 +58,8 @@ place_from w p (element of low high t ∷ steps) =
 
 abbrev pub place_of : World → Path → Reached Place
 place_of w path = place_from w (place_of_root w path.root) path.steps
+
+-- what is done at a place, or the error that is met on the way there
+abbrev pub at_place : Core → Reached Place → (Place → World) → World → World
+at_place core (failing error) f w = failed core error w
+at_place core (reached p) f w = f p

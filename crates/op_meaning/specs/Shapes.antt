@@ -26,7 +26,7 @@ use Rattle.op_core.specs.declared.types.IntegerKind.{IntegerKind}
 use Rattle.op_core.specs.declared.types.IntegerKind.TheVariants.{Unsigned8, Signed32}
 use Rattle.op_tree.specs.declared.heading.ParameterMode.TheVariants.{Var, Out}
 use Rattle.op_meaning.specs.Sets.{set_of_elements}
-use Rattle.op_meaning.specs.Values.{Value, number, parts, text, array, instance, empty, literal}
+use Rattle.op_meaning.specs.Values.{Value, number, parts, text, array, instance, empty, text_of_literal}
 
 -- what a type is where there is none
 abbrev pub no_type : TypeId
@@ -105,7 +105,7 @@ zero_of core of = zero_within (suc of.0) core of
 -- a constant as a value; nil is what the type begins with
 abbrev pub value_of_constant : Core → TypeId → Const → Value
 value_of_constant core of (Ordinal n) = number n
-value_of_constant core of (Text bytes) = text (literal bytes)
+value_of_constant core of (Text bytes) = text (text_of_literal bytes)
 value_of_constant core of (SetOf es) = number (set_of_elements es)
 value_of_constant core of NilOf = zero_of core of
 

@@ -13,8 +13,8 @@ use Rattle.op_meaning.specs.Losing.{ends_made, ends_place, freed, destroys, loca
 use Rattle.op_meaning.specs.Paths.{Root, place_of_root}
 use Rattle.op_meaning.specs.Shapes.{field_of_class}
 use Rattle.op_meaning.specs.Texts.{line_feed}
-use Rattle.op_meaning.specs.Values.{Value, text, instance, empty, literal, named, Text, object, part_of}
-use Rattle.op_meaning.specs.World.{World, Object, chars, fields, Dead, with_number, with_value, number_at, reported, with_waiting, class_of}
+use Rattle.op_meaning.specs.Values.{instance, object, part_of}
+use Rattle.op_meaning.specs.World.{World, Object, fields, Dead, with_number, with_value, number_at, reported, with_waiting, class_of, bytes_in}
 
 -- ---- classes ("Classes")
 
@@ -39,19 +39,6 @@ descends core c d = descends_within (suc (length core.classes)) core d c
 abbrev class_name : Option ClassRow → List ℕ
 class_name None = []
 class_name (Some x) = x.name
-
-abbrev bytes_under : Object → List ℕ
-bytes_under (chars bytes) = bytes
-bytes_under _ = []
-
-abbrev bytes_of_text : World → Text → List ℕ
-bytes_of_text w empty = []
-bytes_of_text w (literal bytes) = bytes
-bytes_of_text w (named n) = bytes_under (w.objects n)
-
-abbrev pub bytes_in : World → Value → List ℕ
-bytes_in w (text t) = bytes_of_text w t
-bytes_in w _ = []
 
 abbrev message_by : World → ClassId → ℕ → Core → Option ExceptionClasses → List ℕ
 message_by w c e core None = []

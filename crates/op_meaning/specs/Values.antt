@@ -13,6 +13,11 @@ pub data Text : Type 0 where
   literal : (bytes : List ℕ) → Text
   named : (name : ℕ) → Text
 
+-- what the text of a program has: no literal is empty
+abbrev pub text_of_literal : List ℕ → Text
+text_of_literal [] = empty
+text_of_literal (b ∷ bytes) = literal (b ∷ bytes)
+
 -- Integers, Booleans, Chars, values of enumerations and sets are numbers: a set has the bit k for each element k. A record or an
 -- array with bounds has so many parts, counted from 0. Dynamic arrays, classes and interfaces are references: what stands under
 -- the name is elsewhere, and None is nil. ("Ordinal types", "Set types", "Record types", "Arrays", "Classes", "Interfaces".)

@@ -1,9 +1,9 @@
 -- What actions read and change: the temporaries of the activation under way, what all variables hold, what stands under names, and
 -- the console. (Free Pascal Reference Guide, "Variables" and "Managed types"; User's Guide, "Run-time errors".)
-use Rattle.std.specs.Prelude.{ℕ, suc, ℤ, List, ◌++◌, Option, Some, nat_eq, if◌then◌else◌}
+use Rattle.std.specs.Prelude.{ℕ, suc, ℤ, List, [], ◌∷◌, ◌++◌, Option, Some, nat_eq, if◌then◌else◌}
 use Rattle.op_core.specs.declared.ids.ClassId.{ClassId}
 use Rattle.op_core.specs.declared.ids.TypeId.{TypeId}
-use Rattle.op_meaning.specs.Values.{Value, Holder, Place, get, put, same_holder}
+use Rattle.op_meaning.specs.Values.{Value, text, Text, empty, literal, named, Holder, temporary, Place, all_of, get, put, same_holder}
 
 -- how far an instance has come ("Class instantiation" and "Class destruction")
 pub data Phase : Type 0 where
@@ -74,6 +74,10 @@ value_at w p = get p.path (w.memory p.holder)
 abbrev pub with_value : Place → Value → World → World
 with_value p v w = record w { memory = λ h. if same_holder h p.holder then put p.path v (w.memory h) else w.memory h }
 
+-- a value goes to a temporary of its own, which has to be ended
+abbrev pub with_made : TypeId → ℕ → Value → World → World
+with_made of n v w = with_value (all_of (temporary w.depth of n)) v (record w { made = record { of = of; n = n } ∷ w.made })
+
 -- ---- names
 
 abbrev pub with_object : ℕ → Object → World → World
@@ -89,6 +93,22 @@ class_of w i = class_under (w.objects i)
 -- the next name stands for this
 abbrev pub making : Object → World → World
 making o w = record w { objects = λ n. if nat_eq n w.next then o else w.objects n; next = suc w.next }
+
+-- ---- texts
+
+abbrev bytes_under : Object → List ℕ
+bytes_under (chars bytes) = bytes
+bytes_under (buffer bytes capacity) = bytes
+bytes_under _ = []
+
+abbrev pub bytes_of_text : World → Text → List ℕ
+bytes_of_text w empty = []
+bytes_of_text w (literal bytes) = bytes
+bytes_of_text w (named n) = bytes_under (w.objects n)
+
+abbrev pub bytes_in : World → Value → List ℕ
+bytes_in w (text t) = bytes_of_text w t
+bytes_in w _ = []
 
 -- ---- the console
 

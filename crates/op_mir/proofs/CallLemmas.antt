@@ -17,9 +17,9 @@ use Rattle.op_meaning.specs.World.{Running, Ended}
 use Rattle.op_mir.specs.Code.{Instr, do_call, ret, Exits, routine_exits, blocks_of, blocks_in, items_of}
 use Rattle.op_mir.specs.Going.{At, CallerGoes, CallersGo, image, Goes}
 use Rattle.op_mir.specs.Machine.{code_of, code_rules, tables, MirCaller, block_at, instr_bytes, execute}
-use Rattle.op_mir.specs.Plain.{IsPlain, Exists, IsPlainWorld, ArePlainFrames, ArePlainPending}
+use Rattle.op_mir.specs.Plain.{IsPlain, Exists, IsUnraised, ArePlainFrames, ArePlainPending, closes_first}
 use Rattle.op_mir.proofs.BlockLemmas.{at_beginning, blocks_of_routine, onto_both}
-use Rattle.op_mir.proofs.PlainLemmas.{plain_entered, plain_received, failed_ended}
+use Rattle.op_mir.proofs.PlainLemmas.{unraised_entered, unraised_received, failed_ended}
 use Rattle.op_mir.proofs.StepLemmas.{Reaches, Here, advance}
 
 -- ---- an activation begins
@@ -46,7 +46,7 @@ ended_goes p s ms rest status ended frames callers pending = record {
   pending = pending;
 }
 
-pub begun_goes : (p : Program) → IsPlain p → (s : State) (ms : List MirCaller) (r : ℕ) (receiver : Receiver) (given : List Handed) (out : Exits) (behind : List Instr) → Exists p r → IsPlainWorld s.world → ArePlainFrames s.frames → CallersGo p s.callers ms → ArePlainPending p s.pending → (s.frames ≡ [] → At p (blocks_in p s.routine) out s.work behind) → Goes p (begun (source_rules p) r receiver given s) (begun (code_rules (code_of p)) r receiver given (image s behind ms))
+pub begun_goes : (p : Program) → IsPlain p → (s : State) (ms : List MirCaller) (r : ℕ) (receiver : Receiver) (given : List Handed) (out : Exits) (behind : List Instr) → Exists p r → IsUnraised s.world → ArePlainFrames s.frames → CallersGo p s.callers ms → ArePlainPending p s.pending → (closes_first s.frames ≡ false → At p (blocks_in p s.routine) out s.work behind) → Goes p (begun (source_rules p) r receiver given s) (begun (code_rules (code_of p)) r receiver given (image s behind ms))
 begun_goes p plain s ms r receiver given out behind exists world frames callers pending at = by (nat_lt p.stack (s.charged + p.charge r))
   where
     x : MirCaller
@@ -59,13 +59,13 @@ begun_goes p plain s ms r receiver given out behind exists world frames callers 
     u = record s { world = entered p r given s.world; routine = r; work = body_work p r; frames = []; callers = y ∷ s.callers; charged = s.charged + p.charge r }
 
     waits : CallerGoes p y x
-    waits = record { plain = record { waiting = world.waiting; made = world.made; frames = frames }; out = out; same = refl; at = at }
+    waits = record { plain = record { waiting = world.waiting; frames = frames }; out = out; same = refl; at = at }
 
     by : (b : Bool) → Goes p (if b then fails p 202 s else u) (if b then image (fails p 202 s) behind ms else image u (block_at (blocks_in p r) 0) (x ∷ ms))
     by true = ended_goes p (fails p 202 s) ms behind 202 (failed_ended p.core plain.exceptions 202 s.world) frames callers pending
     by false = record {
       same = refl;
-      goes_on = λ running. record { world = plain_entered p r given s.world world; out = routine_exits; at = λ e. body_stands p plain r exists };
+      goes_on = λ running. record { world = unraised_entered p r given s.world world; out = routine_exits; at = λ e. body_stands p plain r exists };
       frames = tt;
       callers = (waits, callers);
       pending = pending;
@@ -102,11 +102,11 @@ return_goes p plain s ms out rest h (o, e, comes) = by s.callers ms h.callers h.
         let u = with_frames (closing 0 ∷ []) s in
         let below : closes 0 s.frames (image s [] ms) ≡ image u [] ms = ap (λ f. closes 0 f (image s [] ms)) h.frames in
         let above : u ≡ closes 0 s.frames s = ap (λ f. closes 0 f s) (sym h.frames) in
-        let goes : Goes p u (image u [] ms) = record { same = refl; goes_on = λ running. record { world = h.world; out = out; at = λ none. absurd (cc none) }; frames = tt; callers = all; pending = h.pending } in
+        let goes : Goes p u (image u [] ms) = record { same = refl; goes_on = λ running. record { world = h.world; out = out; at = λ none. absurd (cc none) }; frames = (tt, tt); callers = all; pending = h.pending } in
         subst (λ v. Reaches p 1 (instr_bytes p.core s.routine ret) s v (image s rest ms)) above (go u (subst (λ m. Goes p u m) (sym below) goes))
     by (y ∷ ys) (x ∷ xs) (g, gs) all go =
         let w = received p y.receiver (result_in p s.routine s.world) (record s.world { temps = y.temps; waiting = y.waiting; made = y.made; depth = s.world.depth - 1 }) in
-        let plain_w : IsPlainWorld w = plain_received p.core plain.exceptions p refl y.receiver (result_in p s.routine s.world) (record s.world { temps = y.temps; waiting = y.waiting; made = y.made; depth = s.world.depth - 1 }) (record { raised = h.world.raised; made = g.plain.made; waiting = g.plain.waiting }) in
+        let plain_w : IsUnraised w = unraised_received p.core plain.exceptions p refl y.receiver (result_in p s.routine s.world) (record s.world { temps = y.temps; waiting = y.waiting; made = y.made; depth = s.world.depth - 1 }) (record { raised = h.world.raised; waiting = g.plain.waiting }) in
         let below = ap (λ z. returned (tables (code_of p)) (z ∷ xs) (image s [] ms)) g.same in
         go (gone_back p y ys s) (record { same = below; goes_on = λ running. record { world = plain_w; out = g.out; at = g.at }; frames = g.plain.frames; callers = gs; pending = h.pending })
     by [] (x ∷ xs) cs all go = absurd cs

@@ -16,8 +16,8 @@ use Rattle.op_core.specs.declared.program.Unit.{Unit as UnitRow}
 use Rattle.op_meaning.specs.Actions.{Action, constant, load, store, copy, look, begin_with, pick, arithmetic, compare, negate, complement, invert, absolute, odd, upper, low_bits, check, neighbour, single, span, combine, contains, check_set, primitive}
 use Rattle.op_meaning.specs.Costs.{numbers, action_bytes, given_bytes, work_bytes, cost}
 use Rattle.op_meaning.specs.Calls.{source_rules}
-use Rattle.op_meaning.specs.Ending.{closed}
-use Rattle.op_meaning.specs.Frames.{Program, State, Frame, Caller, Pending, walk, destruction, construction, closing, finalize, empty_global, uncharged, calling}
+use Rattle.op_meaning.specs.Ending.{framed}
+use Rattle.op_meaning.specs.Frames.{Program, State, Frame, Caller}
 use Rattle.op_meaning.specs.Items.{nowhere, act, also, choose, select, loop, body_first, protect, leave, enter, scoped, attempt, throw, rethrow, halt, construct, free, Task, item, mark, turn, finally, resume, catching, scope, handling, leaving, ending, due}
 use Rattle.op_meaning.specs.Machine.{step, step_by, stepped, acted, done, do_task}
 use Rattle.op_meaning.specs.Start.{start, unit_work}
@@ -26,9 +26,10 @@ use Rattle.op_mir.specs.Code.{Instr, do_call, make_due, ret, Exits, routine_exit
 use Rattle.op_mir.specs.Going.{At, CallersGo, image, IsUnderWay, Goes}
 use Rattle.op_mir.specs.Machine.{code_of, code_rules, MirState, MirCaller, block_at, mir_acted, mir_stepped, mir_step_by, mir_step, mir_cost, mir_cost_by, charge_here, moved, instr_bytes, next_bytes, mir_machine, mir_start, shown_between}
 use Rattle.op_mir.specs.Managed.{managed, CodeFollows, CodeAgrees}
-use Rattle.op_mir.specs.Plain.{IsPlain, Exists, IfExists, ArePlainUnits, ArePlainFrames, ArePlainPending}
+use Rattle.op_mir.specs.Plain.{IsPlain, Exists, IfExists, ArePlainUnits, ArePlainFrames, ArePlainPending, closes_first}
 use Rattle.op_mir.proofs.BlockLemmas.{has_from, at_block}
-use Rattle.op_mir.proofs.CallLemmas.{begun_goes, ended_goes, enter_goes, return_goes}
+use Rattle.op_mir.proofs.CallLemmas.{enter_goes, return_goes}
+use Rattle.op_mir.proofs.EndLemmas.{Calm, framed_goes}
 use Rattle.op_mir.proofs.ItemLemmas.{act_goes, also_goes, choose_goes, select_goes, loop_goes, body_goes, head_goes, turn_goes, protect_goes, finally_goes, leave_item_goes, resume_goes, leaving_goes, scoped_goes, scope_goes, halt_goes, due_goes}
 use Rattle.op_mir.proofs.ShownLemmas.{shown_none, looks_never, shows_between}
 use Rattle.op_mir.proofs.StepLemmas.{Here, Reaches, at_most, one_step, price, price_is, silent, under_way}
@@ -36,47 +37,47 @@ use Rattle.op_mir.proofs.StepLemmas.{Here, Reaches, at_most, one_step, price, pr
 -- ---- the activation under way acts
 
 -- what a step above moves is more than what its instruction moves
-moved_less : (core : Core) (a : Action) → moved core a ≤ action_bytes core a
-moved_less core (constant to n) = omega arith
-moved_less core (load to kind from) = omega arith
-moved_less core (store to kind from) = omega arith
-moved_less core (copy of to from) = omega arith
-moved_less core (look at) = omega arith
-moved_less core (begin_with v of value) = omega arith
-moved_less core (pick to chars index) = omega arith
-moved_less core (arithmetic o checked to a b) = omega arith
-moved_less core (compare o to a b) = omega arith
-moved_less core (negate checked to a) = omega arith
-moved_less core (complement to a) = omega arith
-moved_less core (invert to a) = omega arith
-moved_less core (absolute checked to a) = omega arith
-moved_less core (odd to a) = omega arith
-moved_less core (upper to a) = omega arith
-moved_less core (low_bits kind to a) = omega arith
-moved_less core (check low high to a) = omega arith
-moved_less core (neighbour distance low high to a) = omega arith
-moved_less core (single to a) = omega arith
-moved_less core (span to a b) = omega arith
-moved_less core (combine o to a b) = omega arith
-moved_less core (contains to a b) = omega arith
-moved_less core (check_set all to a) = omega arith
-moved_less core (primitive p operands to) = omega arith
+moved_less : (core : Core) (w : World) (a : Action) → moved core a ≤ action_bytes core w a
+moved_less core w (constant to n) = omega arith
+moved_less core w (load to kind from) = omega arith
+moved_less core w (store to kind from) = omega arith
+moved_less core w (copy of to from) = omega arith
+moved_less core w (look at) = omega arith
+moved_less core w (begin_with v of value) = omega arith
+moved_less core w (pick to chars index) = omega arith
+moved_less core w (arithmetic o checked to a b) = omega arith
+moved_less core w (compare o to a b) = omega arith
+moved_less core w (negate checked to a) = omega arith
+moved_less core w (complement to a) = omega arith
+moved_less core w (invert to a) = omega arith
+moved_less core w (absolute checked to a) = omega arith
+moved_less core w (odd to a) = omega arith
+moved_less core w (upper to a) = omega arith
+moved_less core w (low_bits kind to a) = omega arith
+moved_less core w (check low high to a) = omega arith
+moved_less core w (neighbour distance low high to a) = omega arith
+moved_less core w (single to a) = omega arith
+moved_less core w (span to a b) = omega arith
+moved_less core w (combine o to a b) = omega arith
+moved_less core w (contains to a b) = omega arith
+moved_less core w (check_set all to a) = omega arith
+moved_less core w (primitive p operands to) = omega arith
 
 module _ (p : Program) (s t : State) (from : MirState) (work : List Task) where
   -- at no more than what the work costs above
-  light : Reaches p 1 0 s t from → Reaches p 3 (work_bytes p.core s.routine work) s t from
-  light r = at_most p 1 3 0 (work_bytes p.core s.routine work) s t from (omega arith) (omega arith) r
+  light : Reaches p 1 0 s t from → Reaches p 3 (work_bytes p.core s.world s.routine work) s t from
+  light r = at_most p 1 3 0 (work_bytes p.core s.world s.routine work) s t from (omega arith) (omega arith) r
 
-  longer : Reaches p 3 0 s t from → Reaches p 3 (work_bytes p.core s.routine work) s t from
-  longer r = at_most p 3 3 0 (work_bytes p.core s.routine work) s t from (omega arith) (omega arith) r
+  longer : Reaches p 3 0 s t from → Reaches p 3 (work_bytes p.core s.world s.routine work) s t from
+  longer r = at_most p 3 3 0 (work_bytes p.core s.world s.routine work) s t from (omega arith) (omega arith) r
 
-  heavy : (bytes : ℕ) → bytes ≤ work_bytes p.core s.routine work → Reaches p 1 bytes s t from → Reaches p 3 (work_bytes p.core s.routine work) s t from
-  heavy bytes le r = at_most p 1 3 bytes (work_bytes p.core s.routine work) s t from (omega arith) le r
+  heavy : (bytes : ℕ) → bytes ≤ work_bytes p.core s.world s.routine work → Reaches p 1 bytes s t from → Reaches p 3 (work_bytes p.core s.world s.routine work) s t from
+  heavy bytes le r = at_most p 1 3 bytes (work_bytes p.core s.world s.routine work) s t from (omega arith) le r
 
-task_goes : (p : Program) → IsPlain p → (s : State) (ms : List MirCaller) (out : Exits) (work : List Task) (rest : List Instr) → s.work ≡ work → Here p s ms → At p (blocks_in p s.routine) out work rest → Reaches p 3 (work_bytes p.core s.routine work) s (done p work s) (image s rest ms)
+task_goes : (p : Program) → IsPlain p → (s : State) (ms : List MirCaller) (out : Exits) (work : List Task) (rest : List Instr) → s.work ≡ work → Here p s ms → At p (blocks_in p s.routine) out work rest → Reaches p 3 (work_bytes p.core s.world s.routine work) s (done p work s) (image s rest ms)
 unfolding done do_task
 task_goes p plain s ms out [] rest e h at = heavy p s _ _ [] (instr_bytes p.core s.routine ret) (omega arith) (return_goes p plain s ms out rest h at)
-task_goes p plain s ms out (item (act a) ∷ w) rest e h at = heavy p s _ _ (item (act a) ∷ w) (moved p.core a) (moved_less p.core a) (act_goes p plain s ms a out w rest h at)
+task_goes p plain s ms out (item (act a) ∷ w) rest e h at = heavy p s _ _ (item (act a) ∷ w) (moved p.core a) (moved_less p.core s.world a) (act_goes p plain s ms a out w rest h at)
 task_goes p plain s ms out (item (also truth t is) ∷ w) rest e h at = light p s _ _ (item (also truth t is) ∷ w) (also_goes p s ms truth t is out w rest h at)
 task_goes p plain s ms out (item (choose t a b) ∷ w) rest e h at = light p s _ _ (item (choose t a b) ∷ w) (choose_goes p s ms t a b out w rest h at)
 task_goes p plain s ms out (item (select t a b) ∷ w) rest e h at = light p s _ _ (item (select t a b) ∷ w) (select_goes p s ms t a b out w rest h at)
@@ -99,16 +100,16 @@ task_goes p plain s ms out (resume t ∷ w) rest e h at = longer p s _ _ (resume
 task_goes p plain s ms out (due f ∷ w) rest e h at = light p s _ _ (due f ∷ w) (due_goes p s ms f out w rest h at)
 task_goes p plain s ms out (catching cs ∷ w) rest e h at = absurd at
 task_goes p plain s ms out (handling i ∷ w) rest e h at = absurd at
-task_goes p plain s ms out (scope t ts ∷ w) rest e h at = light p s _ _ (scope t ts ∷ w) (scope_goes p s ms t ts out w rest h at)
+task_goes p plain s ms out (scope t ts ∷ w) rest e h at = light p s _ _ (scope t ts ∷ w) (scope_goes p plain s ms t ts out w rest h at)
 task_goes p plain s ms out (leaving zero ∷ w) rest e h at = absurd at
 task_goes p plain s ms out (leaving (suc n) ∷ w) rest e h at = longer p s _ _ (leaving (suc n) ∷ w) (leaving_goes p s ms n out w rest h at)
 task_goes p plain s ms out (ending vs result ∷ w) rest e h at = absurd at
 
--- ---- the closing
+-- ---- a frame acts
 
 -- a step without an instruction of the code
-by_itself : (p : Program) (s t : State) (ms : List MirCaller) (from last : MirState) (status : ℕ) (others : List Frame) → from.world ≡ s.world → from.routine ≡ s.routine → from.frames ≡ closing status ∷ others → s.world.ending ≡ Running → CallersGo p s.callers from.callers → mir_step (code_of p) from ≡ last → Goes p t last → Reaches p 3 0 s t from
-by_itself p s t ms from last status others world here is running waits step goes =
+by_itself : (p : Program) (s t : State) (ms : List MirCaller) (from last : MirState) (frame : Frame) (others : List Frame) → from.world ≡ s.world → from.routine ≡ s.routine → from.frames ≡ frame ∷ others → s.world.ending ≡ Running → CallersGo p s.callers from.callers → mir_step (code_of p) from ≡ last → Goes p t last → Reaches p 3 0 s t from
+by_itself p s t ms from last frame others world here is running waits step goes =
     let after : last.world ≡ t.world = ap (λ (m : MirState). m.world) goes.same in
     let goes_on : from.world.ending ≡ Running = ap (λ (w : World). w.ending) world ∙ running in
     let shows =
@@ -122,45 +123,28 @@ by_itself p s t ms from last status others world here is running waits step goes
     let r : Reaches p 0 0 s t from = record { more = 0; last = last; goes = goes; steps = one_step p from last _ (silent p s 0 + price p s t 0) goes_on step shows (cost ∙ none) } in
     at_most p 0 3 0 0 s t from (omega arith) (omega arith) r
 
-closing_goes : (p : Program) → IsPlain p → (s : State) (ms : List MirCaller) (rest : List Instr) (status : ℕ) (others : List Frame) → s.frames ≡ closing status ∷ others → s.world.ending ≡ Running → IsUnderWay p s rest → ArePlainFrames s.frames → CallersGo p s.callers ms → ArePlainPending p s.pending → Reaches p 3 0 s (closed (source_rules p) status s.pending s) (image s rest ms)
+frame_goes : (p : Program) → IsPlain p → (s : State) (ms : List MirCaller) (rest : List Instr) (frame : Frame) (others : List Frame) → s.frames ≡ frame ∷ others → s.world.ending ≡ Running → IsUnderWay p s rest → ArePlainFrames s.frames → CallersGo p s.callers ms → ArePlainPending p s.pending → Reaches p 3 0 s (framed (source_rules p) frame others s) (image s rest ms)
 unfolding mir_step mir_step_by mir_stepped mir_acted
-closing_goes p plain s ms rest status others is running under frames callers pending = by s.pending refl pending
-  where
-    m : MirState
-    m = image s rest ms
-
-    steps_to : mir_step (code_of p) m ≡ closed (code_rules (code_of p)) status s.pending m
-    steps_to = ap (λ e. mir_step_by (code_of p) e m) running ∙ ap (λ o. mir_stepped (code_of p) o m) under.world.raised ∙ ap (λ f. mir_acted (code_of p) f m) is
-
-    by : (pd : List Pending) → s.pending ≡ pd → ArePlainPending p pd → Reaches p 3 0 s (closed (source_rules p) status pd s) m
-    by [] e plain_pd =
-        let t = closed (source_rules p) status [] s in
-        by_itself p s t ms m (image t rest ms) status others refl refl is running callers (steps_to ∙ ap (λ pd. closed (code_rules (code_of p)) status pd m) e)
-        (ended_goes p t ms rest status refl frames callers pending)
-    by (finalize r ∷ pd) e plain_pd =
-        let s' = record s { pending = pd } in
-        by_itself p s (closed (source_rules p) status (finalize r ∷ pd) s) ms m (closed (code_rules (code_of p)) status (finalize r ∷ pd) m) status others refl refl is running callers (steps_to ∙ ap (λ x. closed (code_rules (code_of p)) status x m) e)
-        (begun_goes p plain s' ms r.0 nowhere [] under.out rest plain_pd.0 under.world frames callers plain_pd.1 under.at)
-    by (empty_global v ∷ pd) e plain_pd = absurd plain_pd
+frame_goes p plain s ms rest frame others is running under frames callers pending =
+    let m = image s rest ms in
+    let calm : Calm p s ms rest = record { world = under.world; out = under.out; at = under.at; frames = frames; callers = callers; pending = pending } in
+    let steps_to : mir_step (code_of p) m ≡ framed (code_rules (code_of p)) frame others m =
+    ap (λ e. mir_step_by (code_of p) e m) running ∙ ap (λ o. mir_stepped (code_of p) o m) under.world.raised ∙ ap (λ f. mir_acted (code_of p) f m) is in
+    by_itself p s (framed (source_rules p) frame others s) ms m _ frame others refl refl is running callers steps_to (framed_goes p plain ms rest frame others s is calm)
 
 -- ---- a step
 
 -- what the step moves above
 abbrev acting : Program → State → List Frame → ℕ
-acting p s [] = work_bytes p.core s.routine s.work
+acting p s [] = work_bytes p.core s.world s.routine s.work
 acting p s (frame ∷ rest) = numbers 1
 
 frames_go : (p : Program) → IsPlain p → (s : State) (ms : List MirCaller) (rest : List Instr) (frames : List Frame) → s.frames ≡ frames → s.world.ending ≡ Running → IsUnderWay p s rest → ArePlainFrames frames → CallersGo p s.callers ms → ArePlainPending p s.pending → Reaches p 3 (acting p s frames) s (acted p frames s) (image s rest ms)
 unfolding acted
 frames_go p plain s ms rest [] is running under plain_frames callers pending =
-    task_goes p plain s ms under.out s.work rest refl (record { running = running; world = under.world; frames = is; callers = callers; pending = pending }) (under.at is)
-frames_go p plain s ms rest (closing status ∷ others) is running under plain_frames callers pending =
-    at_most p 3 3 0 (numbers 1) s (closed (source_rules p) status s.pending s) (image s rest ms) (omega arith) (omega arith) (closing_goes p plain s ms rest status others is running under (subst ArePlainFrames (sym is) plain_frames) callers pending)
-frames_go p plain s ms rest (walk places lost waits ∷ others) is running under plain_frames callers pending = absurd plain_frames
-frames_go p plain s ms rest (destruction i started entered places waits ∷ others) is running under plain_frames callers pending = absurd plain_frames
-frames_go p plain s ms rest (uncharged frame ∷ others) is running under plain_frames callers pending = absurd plain_frames
-frames_go p plain s ms rest (calling callee receiver given outs ∷ others) is running under plain_frames callers pending = absurd plain_frames
-frames_go p plain s ms rest (construction i ∷ others) is running under plain_frames callers pending = absurd plain_frames
+    task_goes p plain s ms under.out s.work rest refl (record { running = running; world = under.world; frames = is; callers = callers; pending = pending }) (under.at (ap closes_first is))
+frames_go p plain s ms rest (frame ∷ others) is running under plain_frames callers pending =
+    at_most p 3 3 0 (numbers 1) s (framed (source_rules p) frame others s) (image s rest ms) (omega arith) (omega arith) (frame_goes p plain s ms rest frame others is running under (subst ArePlainFrames (sym is) plain_frames) callers pending)
 
 step_goes : (p : Program) → IsPlain p → (s : State) (m : MirState) → s.world.ending ≡ Running → Goes p s m → Reaches p 3 (acting p s s.frames) s (step p s) m
 unfolding step step_by stepped
@@ -262,7 +246,7 @@ begins p plain input =
     let at = subst (λ x. At p x routine_exits (flat_map unit_work p.core.units) (block_at x 0)) (sym code) there in
     record {
       same = refl;
-      goes_on = λ running. record { world = record { raised = refl; made = refl; waiting = λ t. refl }; out = routine_exits; at = λ e. at };
+      goes_on = λ running. record { world = record { raised = refl; waiting = λ t. refl }; out = routine_exits; at = λ e. at };
       frames = tt;
       callers = tt;
       pending = subst (ArePlainPending p) (sym plain.globals) tt;

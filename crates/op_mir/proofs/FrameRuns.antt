@@ -25,12 +25,12 @@ pub record Left : Type 0 where
   pub output : List ℕ
   pub ending : Ending
 
+abbrev pub left_of : MirState → Left
+left_of t = record { names = each t.world.next (λ n. if is_standing (t.world.objects n) then n ∷ [] else []); output = t.world.output; ending = t.world.ending }
+
 unfoldable pub left_after : ℕ → Program → MirState → Left
 unfolding run mir_step mir_step_by mir_stepped mir_acted mir_done execute perform bits_below decimal_by int_wrap each any_below spots_from
 left_after n p m = left_of (run (mir_machine (code_of p)) n m)
-  where
-    left_of : MirState → Left
-    left_of t = record { names = each t.world.next (λ n. if is_standing (t.world.objects n) then n ∷ [] else []); output = t.world.output; ending = t.world.ending }
 
 -- the program closes, and its first global is to be emptied
 abbrev closes_with : Program → (Holder → Value) → (ℕ → Object) → ℕ → MirState

@@ -6,10 +6,9 @@ use Rattle.std.specs.List.{list_any}
 use Rattle.op_core.specs.declared.ids.RoutineId.{RoutineId}
 use Rattle.op_meaning.specs.Actions.{Action, constant, perform}
 use Rattle.op_meaning.specs.Calls.{source_rules}
-use Rattle.op_meaning.specs.Frames.{Program, StateOver, Rules, State, closing, with_work, with_frames}
+use Rattle.op_meaning.specs.Frames.{Program, State, closing, with_work, with_frames}
 use Rattle.op_meaning.specs.Items.{act, also, choose, select, loop, body_first, protect, leave, scoped, halt, Items, Turns, turns, head_of, body_of, Cases, no_cases, cases, Task, item, mark, turn, finally, resume, catching, scope, handling, leaving, ending, due, onto}
 use Rattle.op_meaning.specs.Leaving.{left, resumed}
-use Rattle.op_meaning.specs.Losing.{ends_among, ends_made}
 use Rattle.op_meaning.specs.Machine.{do_item, do_task, scope_on, turned, another_turn, selected, label_has, low_eight}
 use Rattle.op_meaning.specs.Numbers.{is_true, wrapped}
 use Rattle.op_meaning.specs.Unwinding.{closes}
@@ -17,9 +16,10 @@ use Rattle.op_meaning.specs.World.{Temporary, number_at, with_number}
 use Rattle.op_mir.specs.Code.{Instr, do_act, jump, when, unless, switch, dispatch, make_due, open_temporaries, end_temporary, stop, Exits, loop_exits, finally_exits, scope_exits, ends, routine_exits, continued, branch_if, branch_unless, code, code_cases, to_body, between_code, blocks_in}
 use Rattle.op_mir.specs.Going.{Has, Comes, LoopStands, FinallyStands, At, image, Goes}
 use Rattle.op_mir.specs.Machine.{code_of, code_rules, MirState, MirCaller, block_at, block_or, go_to, go_if, arm_for, dispatched, moved, execute}
-use Rattle.op_mir.specs.Plain.{IsPlain, ArePlain, ArePlainTurns, ArePlainCases, IsWay, IsPlainWorld, ArePlainFrames}
+use Rattle.op_mir.specs.Plain.{IsPlain, ArePlain, ArePlainTurns, ArePlainCases, IsWay, IsUnraised, ArePlainFrames}
 use Rattle.op_mir.proofs.BlockLemmas.{has_front, has_back, at_continued, at_block, at_onto}
-use Rattle.op_mir.proofs.PlainLemmas.{plain_perform, plain_number}
+use Rattle.op_mir.proofs.EndLemmas.{Calm, ends_made_goes}
+use Rattle.op_mir.proofs.PlainLemmas.{plain_same, unraised_kept, unraised_perform}
 use Rattle.op_mir.proofs.ShownLemmas.{shown_none}
 use Rattle.op_mir.proofs.StepLemmas.{Reaches, Here, Steps, one, quiet, silent, before, at_most, come, advance, goes_at, goes_with, if_goes}
 
@@ -28,7 +28,11 @@ use Rattle.op_mir.proofs.StepLemmas.{Reaches, Here, Steps, one, quiet, silent, b
 pub act_goes : (p : Program) → IsPlain p → (s : State) (ms : List MirCaller) (a : Action) (out : Exits) (work : List Task) (rest : List Instr) → Here p s ms → At p (blocks_in p s.routine) out (item (act a) ∷ work) rest → Reaches p 1 (moved p.core a) s (do_item p (act a) work s) (image s rest ms)
 unfolding do_item execute
 act_goes p plain s ms a out work rest h (behind, pi, st, at) =
-    advance p s _ ms rest (do_act a None) behind h st.comes (goes_at p s ms h _ (plain_perform p.core plain.exceptions a s.world h.world) work out behind at)
+    let m = image s behind ms in
+    let same = plain_same p.core ((source_rules p).number s) ((code_rules (code_of p)).number m) a s.world pi in
+    advance p s _ ms rest (do_act a None) behind h st.comes
+    (subst (λ v. Goes p (record s { world = perform p.core ((source_rules p).number s) a s.world; work = work }) (record m { world = v })) same
+    (goes_at p s ms h _ (unraised_perform p.core plain.exceptions ((source_rules p).number s) a s.world pi h.world) work out behind at))
 
 pub also_goes : (p : Program) (s : State) (ms : List MirCaller) (truth : Bool) (t : ℕ) (items : Items) (out : Exits) (work : List Task) (rest : List Instr) → Here p s ms → At p (blocks_in p s.routine) out (item (also truth t items) ∷ work) rest → Reaches p 1 0 s (do_item p (also truth t items) work s) (image s rest ms)
 unfolding do_item execute
@@ -197,7 +201,7 @@ protect_goes p s ms t items ts out work rest h (behind, pi, st, at) =
     let inner = at_onto p bs (finally_exits t k) items (finally t ts ∷ work) (k + 4 + length b.blocks) (jump k ∷ []) pi.0 (has_back bs (k + 4) b.blocks a.blocks all) end in
     subst (λ z. Reaches p 1 0 s (record s { world = with_number t z s.world; work = onto items (finally t ts ∷ work) }) (image s rest ms)) none_fits
     (advance p s _ ms rest (do_act (constant t (pos 0)) None) a.now h st.comes
-    (goes_at p s ms h (with_number t (wrapped (pos 0)) s.world) (plain_number t (wrapped (pos 0)) s.world h.world) (onto items (finally t ts ∷ work)) (finally_exits t k) a.now inner))
+    (goes_at p s ms h (with_number t (wrapped (pos 0)) s.world) (unraised_kept.number t (wrapped (pos 0)) s.world h.world) (onto items (finally t ts ∷ work)) (finally_exits t k) a.now inner))
 
 pub finally_goes : (p : Program) (s : State) (ms : List MirCaller) (t : ℕ) (ts : Items) (out : Exits) (work : List Task) (rest : List Instr) → Here p s ms → At p (blocks_in p s.routine) out (finally t ts ∷ work) rest → Reaches p 1 0 s (do_task p (finally t ts) work s) (image s rest ms)
 unfolding do_task execute
@@ -226,7 +230,7 @@ leave_goes p s ms n out (finally t ts ∷ work) rest way h (outer, k, behind, pi
     let s' = record s { world = w } in
     let later = onto ts (resume t ∷ work) in
     let u = record s { world = w; work = later } in
-    let h' : Here p s' ms = record { running = h.running; world = plain_number t z s.world h.world; frames = h.frames; callers = h.callers; pending = h.pending } in
+    let h' : Here p s' ms = record { running = h.running; world = unraised_kept.number t z s.world h.world; frames = h.frames; callers = h.callers; pending = h.pending } in
     let there = finally_stands p bs outer t ts work k behind pi hs at in
     let second : Reaches p 0 0 s' u (image s' (jump k ∷ []) ms) = one p s' u ms (jump k) [] _ h' refl (goes_at p s' ms h' w h'.world later outer (block_at bs k) there) in
     let first : Steps p (image s (do_act (constant t (pos (suc n))) None ∷ jump k ∷ []) ms) (image s' (jump k ∷ []) ms) 1 [] (silent p s 1) = quiet p s s' ms (do_act (constant t (pos (suc n))) None) (jump k ∷ []) (jump k ∷ []) w.temps h refl refl refl in
@@ -278,22 +282,14 @@ scoped_goes p s ms t ts items out work rest h (behind, pi, st, at) =
     (goes_with p s ms h (onto items (scope t ts ∷ work)) outer a.now
     (at_onto p (blocks_in p s.routine) outer items (scope t ts ∷ work) st.k (ends (t ∷ ts) behind) pi st.blocks (out, behind, refl, inl refl, at)))
 
--- what was not made stays as it is
-ends_none : {W K : Type 0} (rules : Rules W K) (t : Temporary) (s : StateOver W K) → s.world.made ≡ [] → ends_made rules t s ≡ s
-ends_none rules t s e = ap (λ made. ends_among rules t made s) e
-
-pub scope_goes : (p : Program) (s : State) (ms : List MirCaller) (t : Temporary) (ts : List Temporary) (out : Exits) (work : List Task) (rest : List Instr) → Here p s ms → At p (blocks_in p s.routine) out (scope t ts ∷ work) rest → Reaches p 1 0 s (do_task p (scope t ts) work s) (image s rest ms)
+pub scope_goes : (p : Program) → IsPlain p → (s : State) (ms : List MirCaller) (t : Temporary) (ts : List Temporary) (out : Exits) (work : List Task) (rest : List Instr) → Here p s ms → At p (blocks_in p s.routine) out (scope t ts ∷ work) rest → Reaches p 1 0 s (do_task p (scope t ts) work s) (image s rest ms)
 unfolding do_task execute
-scope_goes p s ms t ts out work rest h (outer, behind, o, comes, at) =
-    let u = with_work (scope_on ts work) s in
-    let same : ends_made (source_rules p) t u ≡ u = ends_none (source_rules p) t u h.world.made in
-    let does = ends_none (code_rules (code_of p)) t (image s (ends ts behind) ms) h.world.made in
-    subst (λ x. Reaches p 1 0 s x (image s rest ms)) (sym same)
-    (come p 0 0 s u ms rest (end_temporary t ∷ ends ts behind) h comes (one p s u ms (end_temporary t) (ends ts behind) _ h does (goes_on ts)))
+scope_goes p plain s ms t ts out work rest h (outer, behind, o, comes, at) =
+    advance p s _ ms rest (end_temporary t) (ends ts behind) h comes (ends_made_goes p plain ms (ends ts behind) t (with_work (scope_on ts work) s) (calm ts))
   where
-    goes_on : (vs : List Temporary) → Goes p (with_work (scope_on vs work) s) (image s (ends vs behind) ms)
-    goes_on [] = goes_with p s ms h work outer behind at
-    goes_on (v ∷ vs) = goes_with p s ms h (scope v vs ∷ work) (scope_exits outer (v ∷ vs)) (ends (v ∷ vs) behind) (outer, behind, refl, inl refl, at)
+    calm : (vs : List Temporary) → Calm p (with_work (scope_on vs work) s) ms (ends vs behind)
+    calm [] = record { world = h.world; out = outer; at = λ e. at; frames = subst ArePlainFrames (sym h.frames) tt; callers = h.callers; pending = h.pending }
+    calm (v ∷ vs) = record { world = h.world; out = scope_exits outer (v ∷ vs); at = λ e. (outer, behind, refl, inl refl, at); frames = subst ArePlainFrames (sym h.frames) tt; callers = h.callers; pending = h.pending }
 
 -- ---- behind a finally part
 
@@ -322,7 +318,7 @@ resume_goes p s ms t out work rest h (k, behind, comes, hs, at) = by (number_at 
     again : number_at s.world t ≡ pos 4 → Reaches p 3 0 s (resumed (pos 4) t work s) (image s rest ms)
     again e =
         let w = record s.world { raised = s.world.waiting (t + 1) } in
-        let plain : IsPlainWorld w = record { raised = h.world.waiting (t + 1); made = h.world.made; waiting = h.world.waiting } in
+        let plain : IsUnraised w = record { raised = h.world.waiting (t + 1); waiting = h.world.waiting } in
         let u = record s { world = w; work = work } in
         at_most p (1 + 0) 3 0 0 s u (image s rest ms) (omega arith) (omega arith)
         (come p 0 0 s u ms rest (dispatch t k ∷ behind) h comes
@@ -345,7 +341,7 @@ halt_goes p s ms t out work rest h (behind, pi, st, at) =
     let n = low_eight (number_at s.world t) in
     let u = with_frames (closing n ∷ []) (with_work work s) in
     let below = ap (λ f. closes n f (image s behind ms)) h.frames in
-    let goes : Goes p u (image u behind ms) = record { same = refl; goes_on = λ _. record { world = h.world; out = out; at = λ e. at }; frames = tt; callers = h.callers; pending = h.pending } in
+    let goes : Goes p u (image u behind ms) = record { same = refl; goes_on = λ _. record { world = h.world; out = out; at = λ e. at }; frames = (tt, tt); callers = h.callers; pending = h.pending } in
     let above : u ≡ closes n s.frames (with_work work s) = ap (λ f. closes n f (with_work work s)) (sym h.frames) in
     subst (λ v. Reaches p 1 0 s v (image s rest ms)) above
     (come p 0 0 s u ms rest (stop t ∷ behind) h st.comes (one p s u ms (stop t) behind (image u behind ms) h below goes))

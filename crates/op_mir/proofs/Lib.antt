@@ -1,6 +1,7 @@
 pub mod BlockLemmas
 pub mod CallLemmas
 pub mod CodeRuns
+pub mod EndLemmas
 pub mod Following
 pub mod FrameRuns
 pub mod ItemLemmas
@@ -8,6 +9,7 @@ pub mod NeedLemmas
 pub mod PlainLemmas
 pub mod PlainRuns
 pub mod PlainTestLemmas
+pub mod ScopeRuns
 pub mod ShownLemmas
 pub mod StepLemmas
 pub mod Unmanaged

@@ -13,17 +13,21 @@ use Rattle.op_core.specs.declared.program.ExceptionClasses.{ExceptionClasses}
 use Rattle.op_core.specs.declared.program.Unit.{Unit as UnitRow}
 use Rattle.op_core.specs.declared.routine.Routine.{Routine}
 use Rattle.op_core.specs.declared.routine.Variable.{Variable}
+use Rattle.op_meaning.specs.Actions.{Action, constant, load, store, copy, look, begin_with, pick, arithmetic, compare, negate, complement, invert, absolute, odd, upper, low_bits, check, neighbour, single, span, combine, contains, check_set, primitive}
 use Rattle.op_meaning.specs.Calls.{env_of}
 use Rattle.op_meaning.specs.Expressions.{first_here}
 use Rattle.op_meaning.specs.Frames.{Program, empty_global, program_of}
 use Rattle.op_meaning.specs.Items.{Item, act, also, choose, select, loop, body_first, protect, leave, enter, scoped, attempt, throw, rethrow, halt, construct, free, Items, none, then_do, Turns, turns, Cases, no_cases, cases}
+use Rattle.op_meaning.specs.Primitives.{EachOperand, Operand, from_temp, gives, literal_text, text_at}
 use Rattle.op_meaning.specs.Shapes.{is_managed, no_type, variables_of}
 use Rattle.op_meaning.specs.Start.{first_pending}
 use Rattle.op_meaning.specs.Statements.{first_items, work_of_all}
+use Rattle.op_meaning.specs.declared.primitive.Sort.{Sort}
 use Rattle.op_mir.proofs.Unmanaged.{none_emptied, ending_by_row, no_globals}
 use Rattle.op_mir.specs.Code.{items_of}
-use Rattle.op_mir.specs.Plain.{ArePlain, ArePlainCases, ArePlainTurns, ArePlainUnits, IfExists, IsPlain, IsPlainItem, IsWay}
-use Rattle.op_mir.specs.PlainTests.{are_plain, are_plain_cases, are_plain_turns, has_no_exceptions, has_part, has_plain_tables, is_plain_item, is_plain_result, is_plain_routine, is_plain_type, is_plain_unit, is_plain_variable}
+use Rattle.op_mir.specs.Kinds.{is_nothing}
+use Rattle.op_mir.specs.Plain.{IsPlainAction, IsPlainOperand, ArePlain, ArePlainCases, ArePlainTurns, ArePlainUnits, IfExists, IsPlain, IsPlainItem, IsWay}
+use Rattle.op_mir.specs.PlainTests.{is_plain_action, is_plain_operand, are_plain, are_plain_cases, are_plain_turns, has_no_exceptions, has_part, has_plain_tables, is_plain_item, is_plain_result, is_plain_routine, is_plain_type, is_plain_unit, is_plain_variable}
 use Rattle.op_mir.proofs.PlainRuns.{plain_both, plain_first}
 
 -- ---- items
@@ -34,6 +38,42 @@ way (suc zero) is = tt
 way (suc (suc zero)) is = tt
 way (suc (suc (suc n))) is = grind (arith, nat_tests)
 
+operands_plain : (os : List Operand) → list_all is_plain_operand os ≡ true → EachOperand IsPlainOperand os
+operands_plain [] is = tt
+operands_plain (from_temp t ∷ os) is = (tt, operands_plain os is)
+operands_plain (text_at path ∷ os) is = absurd cc
+operands_plain (literal_text bytes ∷ os) is = (tt, operands_plain os is)
+
+nothing_given : (gives : Option Sort) → is_nothing gives ≡ true → gives ≡ None
+nothing_given None is = refl
+nothing_given (Some sort) is = absurd cc
+
+plain_action : (a : Action) → is_plain_action a ≡ true → IsPlainAction a
+plain_action (constant to n) is = tt
+plain_action (load to kind from) is = tt
+plain_action (store to kind from) is = tt
+plain_action (copy of to from) is = tt
+plain_action (look at) is = tt
+plain_action (begin_with v of value) is = tt
+plain_action (pick to chars index) is = tt
+plain_action (arithmetic o checked to a b) is = tt
+plain_action (compare o to a b) is = tt
+plain_action (negate checked to a) is = tt
+plain_action (complement to a) is = tt
+plain_action (invert to a) is = tt
+plain_action (absolute checked to a) is = tt
+plain_action (odd to a) is = tt
+plain_action (upper to a) is = tt
+plain_action (low_bits kind to a) is = tt
+plain_action (check low high to a) is = tt
+plain_action (neighbour distance low high to a) is = tt
+plain_action (single to a) is = tt
+plain_action (span to a b) is = tt
+plain_action (combine o to a b) is = tt
+plain_action (contains to a b) is = tt
+plain_action (check_set all to a) is = tt
+plain_action (primitive p operands to) is = (nothing_given (gives p) (first_so _ _ is), operands_plain operands (second_so (is_nothing (gives p)) _ is))
+
 module _ (p : Program) where
   mutual
     pub plain_items : (items : Items) → are_plain (length p.core.routines) items ≡ true → ArePlain p items
@@ -41,7 +81,7 @@ module _ (p : Program) where
     plain_items (then_do i others) is = (plain_item i (first_so _ _ is), plain_items others (second_so _ _ is))
 
     plain_item : (i : Item) → is_plain_item (length p.core.routines) i ≡ true → IsPlainItem p i
-    plain_item (act a) is = tt
+    plain_item (act a) is = plain_action a is
     plain_item (also truth t items) is = plain_items items is
     plain_item (choose t first otherwise) is = (plain_items first (first_so _ _ is), plain_items otherwise (second_so _ _ is))
     plain_item (select t cs otherwise) is = (plain_cases cs (first_so _ _ is), plain_items otherwise (second_so _ _ is))

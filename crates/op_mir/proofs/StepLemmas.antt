@@ -13,7 +13,7 @@ use Rattle.op_meaning.specs.World.{World, Running}
 use Rattle.op_mir.specs.Code.{Instr, jump, Exits, blocks_in}
 use Rattle.op_mir.specs.Going.{Comes, At, CallersGo, image, Goes}
 use Rattle.op_mir.specs.Machine.{code_of, MirState, MirCaller, block_or, execute, mir_done, mir_acted, mir_stepped, mir_step_by, mir_step, mir_cost, mir_cost_by, mir_effort, mir_shows, mir_machine, next_bytes, instr_bytes, console_between, charge_between, charge_here, shown_between}
-use Rattle.op_mir.specs.Plain.{IsPlainWorld, ArePlainFrames, ArePlainPending}
+use Rattle.op_mir.specs.Plain.{IsUnraised, ArePlainFrames, ArePlainPending}
 use Rattle.op_mir.proofs.ShownLemmas.{shown_none, looks_never}
 
 -- so many instructions, which show this at most at this cost
@@ -42,7 +42,7 @@ pub record Reaches (p : Program) (beside bytes : ℕ) (s t : State) (from : MirS
 -- a state in which the activation under way acts
 pub record Here (p : Program) (s : State) (ms : List MirCaller) : Type 0 where
   pub running : s.world.ending ≡ Running
-  pub world : IsPlainWorld s.world
+  pub world : IsUnraised s.world
   pub frames : s.frames ≡ []
   pub callers : CallersGo p s.callers ms
   pub pending : ArePlainPending p s.pending
@@ -163,7 +163,7 @@ advance p s t ms from i rest h comes g = come p 0 (instr_bytes p.core s.routine 
 
 -- ---- where the activation goes on
 
-pub goes_at : (p : Program) (s : State) (ms : List MirCaller) → Here p s ms → (w : World) → IsPlainWorld w → (work : List Task) (out : Exits) (rest : List Instr) → At p (blocks_in p s.routine) out work rest → Goes p (record s { world = w; work = work }) (image (record s { world = w; work = work }) rest ms)
+pub goes_at : (p : Program) (s : State) (ms : List MirCaller) → Here p s ms → (w : World) → IsUnraised w → (work : List Task) (out : Exits) (rest : List Instr) → At p (blocks_in p s.routine) out work rest → Goes p (record s { world = w; work = work }) (image (record s { world = w; work = work }) rest ms)
 goes_at p s ms h w plain work out rest at = record {
   same = refl;
   goes_on = λ _. record { world = plain; out = out; at = λ _. at };

@@ -13,14 +13,14 @@ use Rattle.op_meaning.specs.Shapes.{is_reference, result_of_routine, variables_o
 use Rattle.op_mir.specs.declared.action.Action.{Action}
 use Rattle.op_mir.specs.declared.action.Action.TheVariants.{Constant, Load, Store, Copy, Look, BeginWith, Pick, Compute, Do}
 use Rattle.op_mir.specs.declared.action.Operand.{Operand}
-use Rattle.op_mir.specs.declared.action.Operand.TheVariants.{Number, Literal}
+use Rattle.op_mir.specs.declared.action.Operand.TheVariants.{Number, Text, Literal}
 use Rattle.op_mir.specs.declared.code.Block.{Block}
 use Rattle.op_mir.specs.declared.code.Routine.{Routine}
 use Rattle.op_mir.specs.declared.instruction.Call.{Call as Operands}
 use Rattle.op_mir.specs.declared.instruction.Given.{Given}
 use Rattle.op_mir.specs.declared.instruction.Given.TheVariants.{ByValue, ByPlace, ByCopy}
 use Rattle.op_mir.specs.declared.instruction.Instruction.{Instruction}
-use Rattle.op_mir.specs.declared.instruction.Instruction.TheVariants.{Act, Call, Jump, When, Unless, Switch, Dispatch, MakeDue, Stop, Return}
+use Rattle.op_mir.specs.declared.instruction.Instruction.TheVariants.{Act, Call, Jump, When, Unless, Switch, Dispatch, MakeDue, OpenTemporaries, EndTemporary, Stop, Return}
 use Rattle.op_mir.specs.declared.instruction.Receiver.{Receiver}
 use Rattle.op_mir.specs.declared.instruction.Receiver.TheVariants.{Nowhere, Temporary as ToTemporary, Place}
 use Rattle.op_mir.specs.declared.path.Path.{Path}
@@ -71,6 +71,7 @@ roots_of_action (Constant to n) = []
 roots_of_action (BeginWith v) = []
 roots_of_action (Pick to text index) = []
 roots_of_action (Compute computation) = []
+-- texts have no code yet
 roots_of_action (Do p operands to) = []
 
 abbrev pub roots_of_given : Given → List Root
@@ -83,6 +84,7 @@ roots_of_receiver (Place of to) = to.root ∷ []
 roots_of_receiver Nowhere = []
 roots_of_receiver (ToTemporary t) = []
 
+-- temporaries that end have no code yet that needs room
 abbrev pub roots_of_instruction : Instruction → List Root
 roots_of_instruction (Act action landing) = roots_of_action action
 roots_of_instruction (Call r call) = flat_map roots_of_given call.given ++ roots_of_receiver call.receiver
@@ -92,6 +94,8 @@ roots_of_instruction (Unless t block) = []
 roots_of_instruction (Switch t arms) = []
 roots_of_instruction (Dispatch t block) = []
 roots_of_instruction (MakeDue r) = []
+roots_of_instruction (OpenTemporaries ts) = []
+roots_of_instruction (EndTemporary t) = []
 roots_of_instruction (Stop t) = []
 roots_of_instruction Return = []
 
@@ -107,6 +111,7 @@ path_words path = 1 + 2 * length path.steps
 -- a literal takes one for its address and one for its length
 unfoldable pub operand_words : Operand → ℕ
 operand_words (Number t) = 0
+operand_words (Text path) = path_words path
 operand_words (Literal text) = 2
 
 unfoldable pub action_words : Action → ℕ
@@ -143,6 +148,8 @@ instruction_words (Unless t block) = 3
 instruction_words (Switch t arms) = 3
 instruction_words (Dispatch t block) = 3
 instruction_words (MakeDue r) = 2
+instruction_words (OpenTemporaries ts) = 0
+instruction_words (EndTemporary t) = 0
 instruction_words (Stop t) = 0
 instruction_words Return = 0
 

@@ -1,11 +1,11 @@
 -- When a state of managed code stands for one of the source machine.
-use Rattle.std.specs.Prelude.{◌≡◌, ℕ, zero, suc, ◌+◌, List, [], ◌∷◌, ◌⊎◌, Some, slice_get}
+use Rattle.std.specs.Prelude.{◌≡◌, ℕ, zero, suc, ◌+◌, false, List, [], ◌∷◌, ◌⊎◌, Some, slice_get}
 use Rattle.op_meaning.specs.Frames.{Program, State, Caller}
 use Rattle.op_meaning.specs.Items.{Item, Turns, turns, Task, item, mark, turn, finally, resume, catching, scope, handling, leaving, ending, due}
 use Rattle.op_meaning.specs.World.{Running}
 use Rattle.op_mir.specs.Code.{Instr, jump, dispatch, make_due, ret, Exits, loop_exits, finally_exits, scope_exits, ends, routine_exits, branch_if, Made, code, code_item, code_loop, between_code, blocks_in}
 use Rattle.op_mir.specs.Machine.{MirState, MirCaller}
-use Rattle.op_mir.specs.Plain.{IsWay, ArePlain, IsPlainItem, ArePlainTurns, Exists, IsPlainWorld, IsPlainCaller, ArePlainFrames, ArePlainPending}
+use Rattle.op_mir.specs.Plain.{IsWay, ArePlain, IsPlainItem, ArePlainTurns, Exists, IsUnraised, IsPlainCaller, ArePlainFrames, closes_first, ArePlainPending}
 
 -- ---- blocks
 
@@ -80,7 +80,7 @@ pub record CallerGoes (p : Program) (s : Caller) (m : MirCaller) : Type 0 where
   pub plain : IsPlainCaller s
   pub out : Exits
   pub same : m ≡ record { routine = s.routine; temps = s.temps; waiting = s.waiting; made = s.made; work = m.work; receiver = s.receiver; frames = s.frames }
-  pub at : s.frames ≡ [] → At p (blocks_in p s.routine) out s.work m.work
+  pub at : closes_first s.frames ≡ false → At p (blocks_in p s.routine) out s.work m.work
 
 abbrev pub CallersGo : Program → List Caller → List MirCaller → Type 0
 CallersGo p [] [] = Unit {0}
@@ -101,11 +101,12 @@ image s rest callers = record {
   counts = tt;
 }
 
--- What a state of the plain class has while it goes on. While it closes, the work below is done no more.
+-- What a state of the plain class has while it goes on: no exception. Temporaries may have been made, and what ends may stand on the
+-- activation. While the program closes, the work below is done no more.
 pub record IsUnderWay (p : Program) (s : State) (rest : List Instr) : Type 0 where
-  pub world : IsPlainWorld s.world
+  pub world : IsUnraised s.world
   pub out : Exits
-  pub at : s.frames ≡ [] → At p (blocks_in p s.routine) out s.work rest
+  pub at : closes_first s.frames ≡ false → At p (blocks_in p s.routine) out s.work rest
 
 pub record Goes (p : Program) (s : State) (m : MirState) : Type 0 where
   pub same : m ≡ image s m.work m.callers

@@ -24,13 +24,13 @@ use Rattle.op_meaning.specs.Primitives.{gives, signature}
 use Rattle.op_meaning.specs.Shapes.{is_reference, shape_of}
 use Rattle.op_meaning.specs.declared.primitive.Sort.{Sort}
 use Rattle.op_meaning.specs.declared.primitive.Sort.TheVariants.{Numeric, Textual}
-use Rattle.op_mir.specs.Shapes.{is_composite, kind_of}
+use Rattle.op_mir.specs.Shapes.{is_composite, is_string, kind_of}
 use Rattle.op_mir.specs.declared.action.Action.{Action}
 use Rattle.op_mir.specs.declared.action.Action.TheVariants.{Constant, Load, Store, Copy, Look, BeginWith, Pick, Compute, Do}
 use Rattle.op_mir.specs.declared.action.Destination.{Destination}
-use Rattle.op_mir.specs.declared.action.Destination.TheVariants.{Unused, InTemporary}
+use Rattle.op_mir.specs.declared.action.Destination.TheVariants.{Unused, InTemporary, InNew, IntoPlace, OverPlace}
 use Rattle.op_mir.specs.declared.action.Operand.{Operand}
-use Rattle.op_mir.specs.declared.action.Operand.TheVariants.{Number, Literal}
+use Rattle.op_mir.specs.declared.action.Operand.TheVariants.{Number, Text, Literal}
 use Rattle.op_mir.specs.declared.ids.LocalId.{LocalId}
 use Rattle.op_mir.specs.declared.instruction.Call.{Call as Operands}
 use Rattle.op_mir.specs.declared.instruction.Given.{Given}
@@ -148,24 +148,52 @@ is_begun core (Some of) = is_number core of || is_composite (shape_of core of)
 abbrev pub begins : Core → Run → LocalId → Bool
 begins core variables v = is_begun core (of_own (slice_get (rows core.variables variables) v.0))
 
+-- the path leads to a place of a type of strings
+abbrev pub is_found_text : Core → Option TypeId → Bool
+is_found_text core None = false
+is_found_text core (Some to) = is_string (shape_of core to)
+
+abbrev pub leads_to_text : Core → Run → Path → Bool
+leads_to_text core variables path = is_found_text core (type_of_path core variables path)
+
 -- the operand is of the sort
-unfoldable pub is_taken : Sort → Operand → Bool
-is_taken Numeric (Number t) = true
-is_taken Numeric (Literal text) = false
-is_taken Textual (Number t) = false
-is_taken Textual (Literal text) = true
+unfoldable pub is_taken : Core → Run → Sort → Operand → Bool
+is_taken core variables Numeric (Number t) = true
+is_taken core variables Numeric (Text path) = false
+is_taken core variables Numeric (Literal text) = false
+is_taken core variables Textual (Number t) = false
+is_taken core variables Textual (Text path) = leads_to_text core variables path
+is_taken core variables Textual (Literal text) = true
 
 -- each is, in order
-abbrev pub are_taken : List Sort → List Operand → Bool
-are_taken [] [] = true
-are_taken (s ∷ sorts) (o ∷ os) = is_taken s o && are_taken sorts os
-are_taken [] (o ∷ os) = false
-are_taken (s ∷ sorts) [] = false
+abbrev pub are_taken : Core → Run → List Sort → List Operand → Bool
+are_taken core variables [] [] = true
+are_taken core variables (s ∷ sorts) (o ∷ os) = is_taken core variables s o && are_taken core variables sorts os
+are_taken core variables [] (o ∷ os) = false
+are_taken core variables (s ∷ sorts) [] = false
 
--- what is given goes to a temporary, and nothing does where nothing is given
-unfoldable pub is_destined : Bool → Destination → Bool
-is_destined some Unused = not some
-is_destined some (InTemporary t) = some
+-- nothing goes nowhere, and a number to a temporary
+abbrev pub is_nothing : Option Sort → Bool
+is_nothing None = true
+is_nothing (Some sort) = false
+
+abbrev pub is_numeric : Option Sort → Bool
+is_numeric None = false
+is_numeric (Some Numeric) = true
+is_numeric (Some Textual) = false
+
+abbrev pub is_textual : Option Sort → Bool
+is_textual None = false
+is_textual (Some Numeric) = false
+is_textual (Some Textual) = true
+
+-- what is given goes where such a one may go: a text to a temporary or a place of a type of strings
+unfoldable pub is_destined : Core → Run → Option Sort → Destination → Bool
+is_destined core variables gives Unused = is_nothing gives
+is_destined core variables gives (InTemporary t) = is_numeric gives
+is_destined core variables gives (InNew of n) = is_textual gives && is_string (shape_of core of)
+is_destined core variables gives (IntoPlace of to old) = is_textual gives && is_string (shape_of core of) && leads_to core variables to of
+is_destined core variables gives (OverPlace to) = is_textual gives && leads_to_text core variables to
 
 -- numbers are loaded and stored as their places keep them, values with parts are copied, and a primitive has the operands that it takes
 unfoldable pub has_kinds : Core → Run → Action → Bool
@@ -177,7 +205,7 @@ has_kinds core variables (Look at) = is_found (type_of_path core variables at)
 has_kinds core variables (BeginWith v) = begins core variables v
 has_kinds core variables (Pick to text index) = true
 has_kinds core variables (Compute computation) = true
-has_kinds core variables (Do p operands to) = are_taken (signature p) operands && is_destined (gives p) to
+has_kinds core variables (Do p operands to) = are_taken core variables (signature p) operands && is_destined core variables (gives p) to
 
 -- ---- calls
 

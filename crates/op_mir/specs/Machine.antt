@@ -87,7 +87,7 @@ dispatched c _ t k m = m
 
 -- in a state that stands behind the instruction
 unfoldable pub execute : Code → Instr → MirState → MirState
-execute c (do_act a landing) m = record m { world = perform c.core a m.world }
+execute c (do_act a landing) m = record m { world = perform c.core ((code_rules c).number m) a m.world }
 execute c (do_call r given receiver landing) m = called (code_rules c) (a_routine r) given receiver m
 execute c (jump k) m = go_to c k m
 execute c (when t k) m = if is_true (number_at m.world t) then go_to c k m else m

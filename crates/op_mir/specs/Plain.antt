@@ -1,13 +1,48 @@
--- The plain class: programs without managed values, instances and exceptions, and the states that they come to.
-use Rattle.std.specs.Prelude.{◌≡◌, ◌<◌, ℕ, zero, suc, List, [], ◌∷◌, length, Option, Some, None, slice_get}
+-- The plain class: programs without managed values, instances and exceptions, and states without an exception, in which what was made may end.
+use Rattle.std.specs.Prelude.{◌≡◌, ◌<◌, ℕ, zero, suc, Bool, true, false, List, [], ◌∷◌, length, Option, Some, None, slice_get, if◌then◌else◌}
 use Rattle.op_core.specs.declared.ids.RoutineId.{RoutineId}
 use Rattle.op_core.specs.declared.program.Unit.{Unit as UnitRow}
+use Rattle.op_meaning.specs.Actions.{Action, constant, load, store, copy, look, begin_with, pick, arithmetic, compare, negate, complement, invert, absolute, odd, upper, low_bits, check, neighbour, single, span, combine, contains, check_set, primitive}
 use Rattle.op_meaning.specs.Calls.{ending_of, emptied_type}
 use Rattle.op_meaning.specs.Frames.{Program, Caller, Frame, walk, destruction, construction, closing, Pending, finalize, empty_global, uncharged, calling}
 use Rattle.op_meaning.specs.Items.{Item, act, also, choose, select, loop, body_first, protect, leave, enter, scoped, attempt, throw, rethrow, halt, construct, free, Items, none, then_do, Turns, turns, Cases, no_cases, cases}
+use Rattle.op_meaning.specs.Primitives.{EachOperand, Operand, from_temp, gives, literal_text, text_at}
 use Rattle.op_meaning.specs.Start.{first_pending}
 use Rattle.op_meaning.specs.World.{World}
 use Rattle.op_mir.specs.Code.{items_of}
+
+-- ---- actions: by a primitive one writes, and looks at no place
+
+abbrev pub IsPlainOperand : Operand → Type 0
+IsPlainOperand (from_temp t) = Unit {0}
+IsPlainOperand (text_at path) = ⊥
+IsPlainOperand (literal_text bytes) = Unit {0}
+
+abbrev pub IsPlainAction : Action → Type 0
+IsPlainAction (constant to n) = Unit {0}
+IsPlainAction (load to kind from) = Unit {0}
+IsPlainAction (store to kind from) = Unit {0}
+IsPlainAction (copy of to from) = Unit {0}
+IsPlainAction (look at) = Unit {0}
+IsPlainAction (begin_with v of value) = Unit {0}
+IsPlainAction (pick to text index) = Unit {0}
+IsPlainAction (arithmetic o checked to a b) = Unit {0}
+IsPlainAction (compare o to a b) = Unit {0}
+IsPlainAction (negate checked to a) = Unit {0}
+IsPlainAction (complement to a) = Unit {0}
+IsPlainAction (invert to a) = Unit {0}
+IsPlainAction (absolute checked to a) = Unit {0}
+IsPlainAction (odd to a) = Unit {0}
+IsPlainAction (upper to a) = Unit {0}
+IsPlainAction (low_bits kind to a) = Unit {0}
+IsPlainAction (check low high to a) = Unit {0}
+IsPlainAction (neighbour distance low high to a) = Unit {0}
+IsPlainAction (single to a) = Unit {0}
+IsPlainAction (span to a b) = Unit {0}
+IsPlainAction (combine o to a b) = Unit {0}
+IsPlainAction (contains to a b) = Unit {0}
+IsPlainAction (check_set all to a) = Unit {0}
+IsPlainAction (primitive p operands to) = (gives p ≡ None) × EachOperand IsPlainOperand operands
 
 -- ---- programs
 
@@ -28,7 +63,7 @@ abbrev mutual
   ArePlain p (then_do i others) = IsPlainItem p i × ArePlain p others
 
   pub IsPlainItem : Program → Item → Type 0
-  IsPlainItem p (act a) = Unit {0}
+  IsPlainItem p (act a) = IsPlainAction a
   IsPlainItem p (also truth t items) = ArePlain p items
   IsPlainItem p (choose t first otherwise) = ArePlain p first × ArePlain p otherwise
   IsPlainItem p (select t cs otherwise) = ArePlainCases p cs × ArePlain p otherwise
@@ -77,19 +112,39 @@ pub record IsPlainWorld (w : World) : Type 0 where
   pub made : w.made ≡ []
   pub waiting : (t : ℕ) → w.waiting t ≡ None
 
--- nothing but the closing
+-- no exception is under way or waits; temporaries that were made may have to be ended
+pub record IsUnraised (w : World) : Type 0 where
+  pub raised : w.raised ≡ None
+  pub waiting : (t : ℕ) → w.waiting t ≡ None
+
+-- the closing, or the end of something in which no exception waits
+abbrev pub IsPlainFrame : Frame → Type 0
+IsPlainFrame (closing status) = Unit {0}
+IsPlainFrame (walk places over waits) = waits ≡ None
+IsPlainFrame (destruction i started entered places waits) = waits ≡ None
+IsPlainFrame (uncharged frame) = IsPlainFrame frame
+IsPlainFrame (calling callee receiver given outs) = ⊥
+IsPlainFrame (construction i) = ⊥
+
 abbrev pub ArePlainFrames : List Frame → Type 0
 ArePlainFrames [] = Unit {0}
-ArePlainFrames (closing status ∷ rest) = ArePlainFrames rest
-ArePlainFrames (walk places lost waits ∷ rest) = ⊥
-ArePlainFrames (destruction i started entered places waits ∷ rest) = ⊥
-ArePlainFrames (uncharged frame ∷ rest) = ⊥
-ArePlainFrames (calling callee receiver given outs ∷ rest) = ⊥
-ArePlainFrames (construction i ∷ rest) = ⊥
+ArePlainFrames (frame ∷ rest) = IsPlainFrame frame × ArePlainFrames rest
+
+-- the program closes, and what is below the frame is done no more
+abbrev pub is_closing : Frame → Bool
+is_closing (closing status) = true
+is_closing (walk places over waits) = false
+is_closing (destruction i started entered places waits) = false
+is_closing (uncharged frame) = is_closing frame
+is_closing (calling callee receiver given outs) = false
+is_closing (construction i) = false
+
+abbrev pub closes_first : List Frame → Bool
+closes_first [] = false
+closes_first (frame ∷ rest) = if is_closing frame then true else closes_first rest
 
 pub record IsPlainCaller (c : Caller) : Type 0 where
   pub waiting : (t : ℕ) → c.waiting t ≡ None
-  pub made : c.made ≡ []
   pub frames : ArePlainFrames c.frames
 
 abbrev pub ArePlainPending : Program → List Pending → Type 0

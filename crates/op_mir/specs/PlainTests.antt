@@ -8,11 +8,47 @@ use Rattle.op_core.specs.declared.program.ExceptionClasses.{ExceptionClasses}
 use Rattle.op_core.specs.declared.program.Unit.{Unit as UnitRow}
 use Rattle.op_core.specs.declared.routine.Routine.{Routine}
 use Rattle.op_core.specs.declared.routine.Variable.{Variable}
+use Rattle.op_meaning.specs.Actions.{Action, constant, load, store, copy, look, begin_with, pick, arithmetic, compare, negate, complement, invert, absolute, odd, upper, low_bits, check, neighbour, single, span, combine, contains, check_set, primitive}
 use Rattle.op_meaning.specs.Frames.{program_of}
 use Rattle.op_meaning.specs.Items.{Item, act, also, choose, select, loop, body_first, protect, leave, enter, scoped, attempt, throw, rethrow, halt, construct, free, Items, none, then_do, Turns, turns, Cases, no_cases, cases}
+use Rattle.op_meaning.specs.Primitives.{Operand, from_temp, gives, literal_text, text_at}
 use Rattle.op_meaning.specs.Shapes.{is_managed, no_type}
 use Rattle.op_mir.specs.Code.{items_of}
+use Rattle.op_mir.specs.Kinds.{is_nothing}
 use Rattle.op_mir.specs.Plain.{IsPlain}
+
+-- ---- actions
+
+abbrev pub is_plain_operand : Operand → Bool
+is_plain_operand (from_temp t) = true
+is_plain_operand (text_at path) = false
+is_plain_operand (literal_text bytes) = true
+
+abbrev pub is_plain_action : Action → Bool
+is_plain_action (constant to n) = true
+is_plain_action (load to kind from) = true
+is_plain_action (store to kind from) = true
+is_plain_action (copy of to from) = true
+is_plain_action (look at) = true
+is_plain_action (begin_with v of value) = true
+is_plain_action (pick to text index) = true
+is_plain_action (arithmetic o checked to a b) = true
+is_plain_action (compare o to a b) = true
+is_plain_action (negate checked to a) = true
+is_plain_action (complement to a) = true
+is_plain_action (invert to a) = true
+is_plain_action (absolute checked to a) = true
+is_plain_action (odd to a) = true
+is_plain_action (upper to a) = true
+is_plain_action (low_bits kind to a) = true
+is_plain_action (check low high to a) = true
+is_plain_action (neighbour distance low high to a) = true
+is_plain_action (single to a) = true
+is_plain_action (span to a b) = true
+is_plain_action (combine o to a b) = true
+is_plain_action (contains to a b) = true
+is_plain_action (check_set all to a) = true
+is_plain_action (primitive p operands to) = is_nothing (gives p) && list_all is_plain_operand operands
 
 -- ---- items, of a program with so many routines
 
@@ -22,7 +58,7 @@ abbrev mutual
   are_plain n (then_do i others) = is_plain_item n i && are_plain n others
 
   pub is_plain_item : ℕ → Item → Bool
-  is_plain_item n (act a) = true
+  is_plain_item n (act a) = is_plain_action a
   is_plain_item n (also truth t items) = are_plain n items
   is_plain_item n (choose t first otherwise) = are_plain n first && are_plain n otherwise
   is_plain_item n (select t cs otherwise) = are_plain_cases n cs && are_plain n otherwise

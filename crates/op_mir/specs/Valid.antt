@@ -16,9 +16,9 @@ use Rattle.op_mir.specs.declared.action.Action.TheVariants.{Constant, Load, Stor
 use Rattle.op_mir.specs.declared.action.Computation.{Computation}
 use Rattle.op_mir.specs.declared.action.Computation.TheVariants.{Arithmetic, Compare, Negate, Complement, Invert, Absolute, Odd, Upper, LowBits, Check, Neighbour, Single, Span, Combine, Contains, CheckSet}
 use Rattle.op_mir.specs.declared.action.Destination.{Destination}
-use Rattle.op_mir.specs.declared.action.Destination.TheVariants.{Unused, InTemporary}
+use Rattle.op_mir.specs.declared.action.Destination.TheVariants.{Unused, InTemporary, InNew, IntoPlace, OverPlace}
 use Rattle.op_mir.specs.declared.action.Operand.{Operand}
-use Rattle.op_mir.specs.declared.action.Operand.TheVariants.{Number, Literal}
+use Rattle.op_mir.specs.declared.action.Operand.TheVariants.{Number, Text, Literal}
 use Rattle.op_mir.specs.declared.code.Block.{Block}
 use Rattle.op_mir.specs.declared.code.Mir.{Mir}
 use Rattle.op_mir.specs.declared.code.Routine.{Routine}
@@ -30,7 +30,7 @@ use Rattle.op_mir.specs.declared.instruction.Call.{Call as Operands}
 use Rattle.op_mir.specs.declared.instruction.Given.{Given}
 use Rattle.op_mir.specs.declared.instruction.Given.TheVariants.{ByValue, ByPlace, ByCopy}
 use Rattle.op_mir.specs.declared.instruction.Instruction.{Instruction}
-use Rattle.op_mir.specs.declared.instruction.Instruction.TheVariants.{Act, Call, Jump, When, Unless, Switch, Dispatch, MakeDue, Stop, Return}
+use Rattle.op_mir.specs.declared.instruction.Instruction.TheVariants.{Act, Call, Jump, When, Unless, Switch, Dispatch, MakeDue, OpenTemporaries, EndTemporary, Stop, Return}
 use Rattle.op_mir.specs.declared.instruction.Receiver.{Receiver}
 use Rattle.op_mir.specs.declared.instruction.Receiver.TheVariants.{Nowhere, Temporary as ToTemporary, Place}
 use Rattle.op_mir.specs.declared.path.Path.{Path}
@@ -38,6 +38,7 @@ use Rattle.op_mir.specs.declared.path.Root.{Root}
 use Rattle.op_mir.specs.declared.path.Root.TheVariants.{Global, Local, Through, Temporary}
 use Rattle.op_mir.specs.declared.path.Step.{Step}
 use Rattle.op_mir.specs.declared.path.Step.TheVariants.{Field, Element}
+use Rattle.op_mir.specs.declared.temporary.Temporary.{Temporary as HeldTemporary}
 
 -- ---- what is named exists
 
@@ -119,13 +120,17 @@ computation_fits routine (Combine operator to left right) = has_three routine to
 computation_fits routine (Contains to element set) = has_three routine to element set
 computation_fits routine (CheckSet all to from) = has_two routine to from
 
-unfoldable pub operand_fits : Routine → Operand → Bool
-operand_fits routine (Number t) = has routine t
-operand_fits routine (Literal text) = true
+unfoldable pub operand_fits : Mir → Routine → Operand → Bool
+operand_fits mir routine (Number t) = has routine t
+operand_fits mir routine (Text path) = path_fits mir routine path
+operand_fits mir routine (Literal text) = true
 
-unfoldable pub destination_fits : Routine → Destination → Bool
-destination_fits routine Unused = true
-destination_fits routine (InTemporary t) = has routine t
+unfoldable pub destination_fits : Mir → Routine → Destination → Bool
+destination_fits mir routine Unused = true
+destination_fits mir routine (InTemporary t) = has routine t
+destination_fits mir routine (InNew of n) = has_type mir of
+destination_fits mir routine (IntoPlace of to old) = has_type mir of && path_fits mir routine to
+destination_fits mir routine (OverPlace to) = path_fits mir routine to
 
 unfoldable pub action_fits : Mir → Routine → Action → Bool
 action_fits mir routine (Constant to n) = has routine to
@@ -136,7 +141,7 @@ action_fits mir routine (Look at) = path_fits mir routine at
 action_fits mir routine (BeginWith v) = has_local routine v
 action_fits mir routine (Pick to text index) = has_two routine to index
 action_fits mir routine (Compute computation) = computation_fits routine computation
-action_fits mir routine (Do p operands to) = list_all (operand_fits routine) operands && destination_fits routine to
+action_fits mir routine (Do p operands to) = list_all (operand_fits mir routine) operands && destination_fits mir routine to
 
 -- ---- instructions
 
@@ -179,6 +184,9 @@ dispatch_fits routine t block = has_next routine t && has_ways routine block
 abbrev pub part_fits : Core → Mir → RoutineId → Bool
 part_fits core mir r = has_routine mir r && is_part (slice_get core.routines r.0)
 
+abbrev pub temporary_fits : Mir → HeldTemporary → Bool
+temporary_fits mir t = has_type mir t.of
+
 -- in a routine with these variables
 unfoldable pub is_valid_instruction : Core → Mir → Run → Routine → Instruction → Bool
 is_valid_instruction core mir variables routine (Act action landing) = act_fits core mir variables routine action landing
@@ -189,6 +197,8 @@ is_valid_instruction core mir variables routine (Unless t block) = branch_fits r
 is_valid_instruction core mir variables routine (Switch t arms) = switch_fits routine t arms
 is_valid_instruction core mir variables routine (Dispatch t block) = dispatch_fits routine t block
 is_valid_instruction core mir variables routine (MakeDue r) = part_fits core mir r
+is_valid_instruction core mir variables routine (OpenTemporaries ts) = list_all (temporary_fits mir) ts
+is_valid_instruction core mir variables routine (EndTemporary t) = temporary_fits mir t
 is_valid_instruction core mir variables routine (Stop t) = has routine t
 is_valid_instruction core mir variables routine Return = true
 
@@ -205,6 +215,8 @@ leaves (Unless t block) = false
 leaves (Switch t arms) = false
 leaves (Dispatch t block) = false
 leaves (MakeDue r) = false
+leaves (OpenTemporaries ts) = false
+leaves (EndTemporary t) = false
 leaves (Stop t) = false
 
 abbrev pub leaves_if : Option Instruction → Bool

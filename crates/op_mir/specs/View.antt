@@ -7,18 +7,19 @@ use Rattle.op_meaning.specs.Actions.{Action as MeantAction, constant, load, stor
 use Rattle.op_meaning.specs.Frames.{program_of}
 use Rattle.op_meaning.specs.Items.{Given as MeantGiven, by_value, by_place, by_copy, Receiver as MeantReceiver, nowhere, to_temp, to_place, none}
 use Rattle.op_meaning.specs.Paths.{Path as MeantPath, Root as MeantRoot, in_global, in_local, through, in_temporary, Step as MeantStep, field, element}
-use Rattle.op_meaning.specs.Primitives.{Destination as MeantDestination, Operand as MeantOperand, from_temp, in_temp, literal_text, unused}
+use Rattle.op_meaning.specs.Primitives.{Destination as MeantDestination, Operand as MeantOperand, from_temp, in_new, in_temp, into_place, literal_text, over_place, text_at, unused}
 use Rattle.op_meaning.specs.Shapes.{type_of_local, variables_of}
-use Rattle.op_mir.specs.Code.{Instr, do_act, do_call, jump, when, unless, switch, dispatch, make_due, stop, ret, Arm as MeantArm, blocks_of}
+use Rattle.op_meaning.specs.World.{Temporary as MeantTemporary}
+use Rattle.op_mir.specs.Code.{Instr, do_act, do_call, jump, when, unless, switch, dispatch, make_due, open_temporaries, end_temporary, stop, ret, Arm as MeantArm, blocks_of}
 use Rattle.op_mir.specs.Machine.{Code}
 use Rattle.op_mir.specs.declared.action.Action.{Action}
 use Rattle.op_mir.specs.declared.action.Action.TheVariants.{Constant, Load, Store, Copy, Look, BeginWith, Pick, Compute, Do}
 use Rattle.op_mir.specs.declared.action.Computation.{Computation}
 use Rattle.op_mir.specs.declared.action.Computation.TheVariants.{Arithmetic, Compare, Negate, Complement, Invert, Absolute, Odd, Upper, LowBits, Check, Neighbour, Single, Span, Combine, Contains, CheckSet}
 use Rattle.op_mir.specs.declared.action.Destination.{Destination}
-use Rattle.op_mir.specs.declared.action.Destination.TheVariants.{Unused, InTemporary}
+use Rattle.op_mir.specs.declared.action.Destination.TheVariants.{Unused, InTemporary, InNew, IntoPlace, OverPlace}
 use Rattle.op_mir.specs.declared.action.Operand.{Operand}
-use Rattle.op_mir.specs.declared.action.Operand.TheVariants.{Number, Literal}
+use Rattle.op_mir.specs.declared.action.Operand.TheVariants.{Number, Text, Literal}
 use Rattle.op_mir.specs.declared.code.Block.{Block}
 use Rattle.op_mir.specs.declared.code.Mir.{Mir}
 use Rattle.op_mir.specs.declared.code.Routine.{Routine}
@@ -27,7 +28,7 @@ use Rattle.op_mir.specs.declared.instruction.Arm.{Arm}
 use Rattle.op_mir.specs.declared.instruction.Given.{Given}
 use Rattle.op_mir.specs.declared.instruction.Given.TheVariants.{ByValue, ByPlace, ByCopy}
 use Rattle.op_mir.specs.declared.instruction.Instruction.{Instruction}
-use Rattle.op_mir.specs.declared.instruction.Instruction.TheVariants.{Act, Call, Jump, When, Unless, Switch, Dispatch, MakeDue, Stop, Return}
+use Rattle.op_mir.specs.declared.instruction.Instruction.TheVariants.{Act, Call, Jump, When, Unless, Switch, Dispatch, MakeDue, OpenTemporaries, EndTemporary, Stop, Return}
 use Rattle.op_mir.specs.declared.instruction.Receiver.{Receiver}
 use Rattle.op_mir.specs.declared.instruction.Receiver.TheVariants.{Nowhere, Temporary as ToTemporary, Place}
 use Rattle.op_mir.specs.declared.path.Path.{Path}
@@ -35,6 +36,7 @@ use Rattle.op_mir.specs.declared.path.Root.{Root}
 use Rattle.op_mir.specs.declared.path.Root.TheVariants.{Global, Local, Through, Temporary}
 use Rattle.op_mir.specs.declared.path.Step.{Step}
 use Rattle.op_mir.specs.declared.path.Step.TheVariants.{Field, Element}
+use Rattle.op_mir.specs.declared.temporary.Temporary.{Temporary as HeldTemporary}
 
 -- ---- places
 
@@ -81,11 +83,15 @@ view_computation (CheckSet all to a) = check_set all to.0 a.0
 
 abbrev pub view_operand : Operand → MeantOperand
 view_operand (Number t) = from_temp t.0
+view_operand (Text path) = text_at (view_path path)
 view_operand (Literal text) = literal_text text
 
 abbrev pub view_destination : Destination → MeantDestination
 view_destination Unused = unused
 view_destination (InTemporary t) = in_temp t.0
+view_destination (InNew of n) = in_new of n
+view_destination (IntoPlace of to old) = into_place of (view_path to) old
+view_destination (OverPlace to) = over_place (view_path to)
 
 -- in a routine of the number
 abbrev pub view_action : Core → ℕ → Action → MeantAction
@@ -118,6 +124,9 @@ view_receiver (Place of to) = to_place of (view_path to)
 abbrev pub view_arm : Arm → MeantArm
 view_arm arm = record { labels = arm.labels; block = arm.block.0 }
 
+abbrev pub view_temporary : HeldTemporary → MeantTemporary
+view_temporary t = record { of = t.of; n = t.number }
+
 abbrev pub view_instruction : Core → ℕ → Instruction → Instr
 view_instruction core r (Act action landing) = do_act (view_action core r action) (view_landing landing)
 view_instruction core r (Call id call) = do_call id.0 (map view_given call.given) (view_receiver call.receiver) (view_landing call.landing)
@@ -127,6 +136,8 @@ view_instruction core r (Unless t block) = unless t.0 block.0
 view_instruction core r (Switch t arms) = switch t.0 (map view_arm arms)
 view_instruction core r (Dispatch t block) = dispatch t.0 block.0
 view_instruction core r (MakeDue f) = make_due f
+view_instruction core r (OpenTemporaries ts) = open_temporaries (map view_temporary ts)
+view_instruction core r (EndTemporary t) = end_temporary (view_temporary t)
 view_instruction core r (Stop t) = stop t.0
 view_instruction core r Return = ret
 

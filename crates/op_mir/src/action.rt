@@ -109,15 +109,23 @@ pub enum Computation {
 #[derive(Drop)]
 pub enum Operand {
     Number(TemporaryId),
+    /// The text at a place.
+    Text(Path),
     Literal(CompactText),
 }
 
 /// Where what a primitive gives goes.
-#[derive(Clone, Copy)]
+#[derive(Drop)]
 pub enum Destination {
     /// Nothing is given.
     Unused,
     InTemporary(TemporaryId),
+    /// A text, to a new temporary of the type that has to be ended.
+    InNew { of: TypeId, number: u32 },
+    /// A text, into a place of the type, whose old value goes to a new temporary.
+    IntoPlace { of: TypeId, to: Path, old: u32 },
+    /// A text, over the one at a place, which is given itself or held elsewhere.
+    OverPlace { to: Path },
 }
 
 /// What is done in one step.

@@ -137,6 +137,8 @@ fn instruction_words(instruction: &Instruction) -> u64
             block: _,
         } => 3,
         Instruction::MakeDue { finalization: _ } => 2,
+        Instruction::OpenTemporaries { temporaries: _ } => 0,
+        Instruction::EndTemporary { temporary: _ } => 0,
         Instruction::Stop { status: _ } => 0,
         Instruction::Return => 0,
     }
@@ -192,10 +194,11 @@ fn operands_words(operands: &[Operand]) -> u64
 
 #[tactic(auto, unfolding(crate::specs::FrameNeed::operand_words))]
 fn operand_words(operand: &Operand) -> u64
-    ensures { result ≡ operand_words operand.now }
+    ensures { result ≡ min (operand_words operand.now) (2 ^ 64 - 1) }
 {
     match operand {
         Operand::Number(_) => 0,
+        Operand::Text(path) => path_words(path),
         Operand::Literal(_) => 2,
     }
 }

@@ -1,6 +1,6 @@
 //! Instructions of managed code.
 
-use crate::{Action, BlockId, Path, TemporaryId};
+use crate::{Action, BlockId, Path, Temporary, TemporaryId};
 use op_base::Sequence;
 use op_core::{IntegerKind, Label, RoutineId, TypeId};
 
@@ -86,6 +86,14 @@ pub enum Instruction {
     /// The finalization of a unit becomes due.
     MakeDue {
         finalization: RoutineId,
+    },
+    /// What is made behind it and has to be ended is among these, which end in this order: the one that is made last first.
+    OpenTemporaries {
+        temporaries: Sequence<Temporary>,
+    },
+    /// The temporary ends, if it was made.
+    EndTemporary {
+        temporary: Temporary,
     },
     /// The program ends with this status.
     Stop {

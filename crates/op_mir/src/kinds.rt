@@ -3,11 +3,11 @@ ghost use Rattle.op_core.specs.Rows.{rows};
 ghost use Rattle.op_core.specs.Sizes.{range_of, type_at};
 ghost use Rattle.op_meaning.specs.Primitives.{gives, signature};
 ghost use Rattle.op_meaning.specs.Shapes.{is_reference, shape_of};
-ghost use Rattle.op_mir.specs.Kinds.{are_from, are_given, are_taken, begins, calls, copies, has_kinds, is_destined, is_given, is_kept_as, is_number, is_of_unit, is_part, is_received, is_same_range, is_taken, leads_to, leads_to_kind, of_own, of_referred, type_behind, type_of_element, type_of_field, type_of_path, type_of_root};
+ghost use Rattle.op_mir.specs.Kinds.{are_from, are_given, are_taken, begins, calls, copies, has_kinds, is_destined, is_given, is_kept_as, is_number, is_of_unit, is_part, is_received, is_same_range, is_taken, is_textual, leads_to, leads_to_kind, leads_to_text, of_own, of_referred, type_behind, type_of_element, type_of_field, type_of_path, type_of_root};
 ghost use Rattle.std.specs.List.{list_any};
 ghost use Rattle.std.specs.Prelude.{◌≡◌, nat_eq, slice_get};
 
-use crate::shape::{is_composite, single_kind};
+use crate::shape::{is_composite, is_string, single_kind};
 use crate::{Action, Call, Destination, Given, LocalId, Operand, Path, Receiver, Root, Step};
 use op_core::{
     Core, CoreType, IntegerKind, Owner, Parameter, Role, RoutineId, Run, TypeId, VariableId,
@@ -246,15 +246,24 @@ pub(crate) fn has_kinds(core: &Core, variables: Run, action: &Action) -> bool
             operands,
             to,
         } => {
-            are_taken(primitive.signature(), operands.as_slice())
-                && is_destined(primitive.gives(), *to)
+            are_taken(core, variables, primitive.signature(), operands.as_slice())
+                && is_destined(core, variables, primitive.gives(), to)
         }
     }
 }
 
+fn leads_to_text(core: &Core, variables: Run, path: &Path) -> bool
+    ensures { result ≡ leads_to_text core.now variables path.now }
+{
+    match type_of_path(core, variables, path) {
+        None => false,
+        Some(to) => is_string(core, to),
+    }
+}
+
 /// Whether each operand is of its sort, in order.
-fn are_taken(sorts: &[Sort], operands: &[Operand]) -> bool
-    ensures { result ≡ are_taken sorts.now operands.now }
+fn are_taken(core: &Core, variables: Run, sorts: &[Sort], operands: &[Operand]) -> bool
+    ensures { result ≡ are_taken core.now variables sorts.now operands.now }
 {
     match sorts.split_first() {
         None => match operands.split_first() {
@@ -263,35 +272,52 @@ fn are_taken(sorts: &[Sort], operands: &[Operand]) -> bool
         },
         Some((sort, others)) => match operands.split_first() {
             None => false,
-            Some((operand, rest)) => is_taken(*sort, operand) && are_taken(others, rest),
+            Some((operand, rest)) => {
+                is_taken(core, variables, *sort, operand)
+                    && are_taken(core, variables, others, rest)
+            }
         },
     }
 }
 
 #[tactic(auto, unfolding(crate::specs::Kinds::is_taken))]
-fn is_taken(sort: Sort, operand: &Operand) -> bool
-    ensures { result ≡ is_taken sort operand.now }
+fn is_taken(core: &Core, variables: Run, sort: Sort, operand: &Operand) -> bool
+    ensures { result ≡ is_taken core.now variables sort operand.now }
 {
     match sort {
         Sort::Numeric => match operand {
             Operand::Number(_) => true,
+            Operand::Text(_) => false,
             Operand::Literal(_) => false,
         },
         Sort::Textual => match operand {
             Operand::Number(_) => false,
+            Operand::Text(path) => leads_to_text(core, variables, path),
             Operand::Literal(_) => true,
         },
     }
 }
 
+/// Whether what is given, of this sort or nothing, goes where such a one may go.
 #[tactic(auto, unfolding(crate::specs::Kinds::is_destined))]
-fn is_destined(gives: bool, to: Destination) -> bool
-    ensures { result ≡ is_destined gives to }
+fn is_destined(core: &Core, variables: Run, gives: Option<Sort>, to: &Destination) -> bool
+    ensures { result ≡ is_destined core.now variables gives to.now }
 {
     match to {
-        Destination::Unused => !gives,
-        Destination::InTemporary(_) => gives,
+        Destination::Unused => gives.is_none(),
+        Destination::InTemporary(_) => matches!(gives, Some(Sort::Numeric)),
+        Destination::InNew { of, number: _ } => is_textual(gives) && is_string(core, *of),
+        Destination::IntoPlace { of, to, old: _ } => {
+            is_textual(gives) && is_string(core, *of) && leads_to(core, variables, to, *of)
+        }
+        Destination::OverPlace { to } => is_textual(gives) && leads_to_text(core, variables, to),
     }
+}
+
+fn is_textual(gives: Option<Sort>) -> bool
+    ensures { result ≡ is_textual gives }
+{
+    matches!(gives, Some(Sort::Textual))
 }
 
 // ---- calls

@@ -14,6 +14,7 @@ mod instruction;
 mod kinds;
 mod path;
 mod shape;
+mod temporary;
 mod theorems;
 mod validity;
 
@@ -23,5 +24,6 @@ pub use ids::{BlockId, LocalId, TemporaryId};
 pub use instruction::{Arm, Call, Given, Instruction, Receiver};
 pub use path::{Path, Root, Step, one_root};
 pub use shape::{is_composite, single_kind};
+pub use temporary::Temporary;
 pub use theorems::{code_goes_along, program_is_plain_by_test};
 pub use validity::valid;

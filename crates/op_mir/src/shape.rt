@@ -1,7 +1,7 @@
 //! How values of a type are kept: as one number, or not.
 ghost use Rattle.std.specs.Prelude.{◌≡◌};
 ghost use Rattle.op_meaning.specs.Shapes.{shape_of};
-ghost use Rattle.op_mir.specs.Shapes.{is_composite, kind_of};
+ghost use Rattle.op_mir.specs.Shapes.{is_composite, is_string, kind_of};
 
 use op_core::{Core, CoreType, IntegerKind, TypeId, type_at};
 
@@ -27,4 +27,11 @@ pub fn is_composite(core: &Core, of: TypeId) -> bool
         type_at(core, of),
         Some(CoreType::Record { .. } | CoreType::Array { .. })
     )
+}
+
+/// Whether the values of the type are strings.
+pub(crate) fn is_string(core: &Core, of: TypeId) -> bool
+    ensures { result ≡ is_string (shape_of core.now of) }
+{
+    matches!(type_at(core, of), Some(CoreType::String))
 }

@@ -3,7 +3,8 @@ ghost use Rattle.op_mir.specs.Managed.{CodeAgrees, CodeFollows};
 ghost use Rattle.op_mir.specs.PlainTests.{PlainByTest};
 
 /// The code of a plain program goes along with the source machine: a step of that is one instruction or more, which show the same at no
-/// more than four times its cost; they begin together, and go along for ever.
+/// more than four times its cost; they begin together, and go along for ever. So it does from each state without an exception, also where
+/// temporaries were made that have to be ended, and where what ends is walked over or destroyed.
 pub fn code_goes_along()
     ensures follows { CodeFollows }
     ensures agrees { CodeAgrees }

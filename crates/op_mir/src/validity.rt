@@ -1,7 +1,7 @@
 //! Whether managed code names only what exists, has operands of their kinds, and needs no more than there is.
 ghost use Rattle.op_core.specs.Sound.{bytes_of, globals_of};
 ghost use Rattle.op_meaning.specs.Shapes.{variables_of};
-ghost use Rattle.op_mir.specs.Valid.{act_fits, action_fits, all_given_fit, are_valid_from, arm_fits, branch_fits, call_fits, computation_fits, copied_fits, copy_fits, destination_fits, dispatch_fits, given_fits, globals_have_room, has, has_block, has_landing, has_local, has_next, has_routine, has_tables, has_three, has_two, has_type, has_variable, has_ways, is_charged, is_valid, is_valid_block, is_valid_instruction, is_valid_routine, leaves, leaves_if, load_fits, operand_fits, part_fits, path_fits, receiver_fits, root_fits, step_fits, switch_fits};
+ghost use Rattle.op_mir.specs.Valid.{act_fits, action_fits, all_given_fit, are_valid_from, arm_fits, branch_fits, call_fits, computation_fits, copied_fits, copy_fits, destination_fits, dispatch_fits, given_fits, globals_have_room, has, has_block, has_landing, has_local, has_next, has_routine, has_tables, has_three, has_two, has_type, has_variable, has_ways, is_charged, is_valid, is_valid_block, is_valid_instruction, is_valid_routine, leaves, leaves_if, load_fits, operand_fits, part_fits, path_fits, receiver_fits, root_fits, step_fits, switch_fits, temporary_fits};
 ghost use Rattle.std.specs.List.{list_all};
 ghost use Rattle.std.specs.Option.{option_to_list};
 ghost use Rattle.std.specs.Prelude.{◌≡◌, ◌-◌, length, slice_get};
@@ -10,7 +10,7 @@ use crate::frame_need::frame_need;
 use crate::kinds::{calls, has_kinds, is_part};
 use crate::{
     Action, Arm, Block, BlockId, Call, Computation, Destination, Given, Instruction, LocalId, Mir,
-    Operand, Path, Receiver, Root, Routine, Step, TemporaryId,
+    Operand, Path, Receiver, Root, Routine, Step, Temporary, TemporaryId,
 };
 use op_core::{Core, RoutineId, Run, TypeId, VariableId, size_of};
 
@@ -171,6 +171,11 @@ fn valid_instruction(
         Instruction::MakeDue { finalization } => {
             names_routine(mir, *finalization) && is_part(core, *finalization)
         }
+        Instruction::OpenTemporaries { temporaries } => all_temporaries(
+            mir,
+            temporaries.as_slice(),
+        ),
+        Instruction::EndTemporary { temporary } => names_type(mir, temporary.of),
         Instruction::Stop { status } => has_one(routine, *status),
         Instruction::Return => true,
     }
@@ -270,6 +275,14 @@ fn valid_dispatch(routine: &Routine, temporary: TemporaryId, block: BlockId) -> 
     has_next(routine, temporary) && leads_three_ways(routine, block)
 }
 
+fn all_temporaries(mir: &Mir, temporaries: &[Temporary]) -> bool
+    ensures { result ≡ list_all (temporary_fits mir.now) temporaries.now }
+{
+    temporaries
+        .iter()
+        .all(|temporary| names_type(mir, temporary.of))
+}
+
 // ---- actions
 
 #[tactic(auto, unfolding(crate::specs::Valid::action_fits))]
@@ -289,7 +302,7 @@ fn valid_action(mir: &Mir, routine: &Routine, action: &Action) -> bool
             primitive: _,
             operands,
             to,
-        } => all_operands(routine, operands.as_slice()) && valid_destination(routine, *to),
+        } => all_operands(mir, routine, operands.as_slice()) && valid_destination(mir, routine, to),
     }
 }
 
@@ -373,31 +386,37 @@ fn valid_computation(routine: &Routine, computation: Computation) -> bool
     }
 }
 
-fn all_operands(routine: &Routine, operands: &[Operand]) -> bool
-    ensures { result ≡ list_all (operand_fits routine.now) operands.now }
+fn all_operands(mir: &Mir, routine: &Routine, operands: &[Operand]) -> bool
+    ensures { result ≡ list_all (operand_fits mir.now routine.now) operands.now }
 {
     operands
         .iter()
-        .all(|operand| valid_operand(routine, operand))
+        .all(|operand| valid_operand(mir, routine, operand))
 }
 
 #[tactic(auto, unfolding(crate::specs::Valid::operand_fits))]
-fn valid_operand(routine: &Routine, operand: &Operand) -> bool
-    ensures { result ≡ operand_fits routine.now operand.now }
+fn valid_operand(mir: &Mir, routine: &Routine, operand: &Operand) -> bool
+    ensures { result ≡ operand_fits mir.now routine.now operand.now }
 {
     match operand {
         Operand::Number(temporary) => has_one(routine, *temporary),
+        Operand::Text(path) => valid_path(mir, routine, path),
         Operand::Literal(_) => true,
     }
 }
 
 #[tactic(auto, unfolding(crate::specs::Valid::destination_fits))]
-fn valid_destination(routine: &Routine, to: Destination) -> bool
-    ensures { result ≡ destination_fits routine.now to }
+fn valid_destination(mir: &Mir, routine: &Routine, to: &Destination) -> bool
+    ensures { result ≡ destination_fits mir.now routine.now to.now }
 {
     match to {
         Destination::Unused => true,
-        Destination::InTemporary(temporary) => has_one(routine, temporary),
+        Destination::InTemporary(temporary) => has_one(routine, *temporary),
+        Destination::InNew { of, number: _ } => names_type(mir, *of),
+        Destination::IntoPlace { of, to, old: _ } => {
+            names_type(mir, *of) && valid_path(mir, routine, to)
+        }
+        Destination::OverPlace { to } => valid_path(mir, routine, to),
     }
 }
 

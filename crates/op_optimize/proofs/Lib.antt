@@ -11,6 +11,7 @@ mod Naming
 mod Needing
 pub mod Optimized
 mod PlainCode
+mod Powers
 mod RenamedCode
 mod RenamedRuns
 mod SimplifiedPlans

@@ -16,13 +16,12 @@ use Rattle.op_rv.specs.declared.instruction.BranchOp.{BranchOp}
 use Rattle.op_rv.specs.declared.instruction.BranchOp.TheVariants.{Beq, Bne, Blt, Bge, Bltu, Bgeu}
 use Rattle.op_rv.specs.declared.instruction.ImmOp.{ImmOp}
 use Rattle.op_rv.specs.declared.instruction.ImmOp.TheVariants.{Addi, Slti, Sltiu, Xori, Ori, Andi}
-use Rattle.op_rv.specs.declared.instruction.ShiftOp.TheVariants.{Slli}
 use Rattle.op_rv.specs.declared.symbol.Symbol.{Symbol}
 use Rattle.op_rv.specs.declared.symbol.Symbol.TheVariants.{Literal, Table, Descriptor, Global, Routine}
 use Rattle.op_low.specs.declared.ids.VirtualRegister.{VirtualRegister}
 use Rattle.op_optimize.specs.Contents.{is_content, same_content, same_symbol}
 use Rattle.op_optimize.specs.Reading.{same}
-use Rattle.op_optimize.specs.Values.{alu_by, folded, near, opposite, power_by, power_of, value_with_one}
+use Rattle.op_optimize.specs.Values.{alu_by, folded, near, opposite, power_below, power_by, power_of, value_with_one}
 use Rattle.op_optimize.specs.declared.fact.Content.{Content}
 use Rattle.op_optimize.specs.declared.fact.Content.TheVariants.{Number as NumberIn, Place}
 use Rattle.op_optimize.specs.declared.fact.Known.{Known}
@@ -181,23 +180,22 @@ near_means op n x f is = by (nat_lt n 2048) (nat_le (2 ^ 32 - 2048) n && nat_lt 
 difference_is : (x n : ℕ) → (x + (2 ^ 32 - n) % 2 ^ 32) % 2 ^ 32 ≡ (x + (2 ^ 32 - n)) % 2 ^ 32
 difference_is x n = omega arith
 
+power_is : (k n a : ℕ) → power_below k n ≡ suc a → 2 ^ suc a ≡ n
+unfolding power_below
+power_is zero n a is = absurd cc
+power_is (suc k) n a is = by (nat_eq n (2 ^ k)) refl (power_is k n a) is
+  where
+    by : (t : Bool) → nat_eq n (2 ^ k) ≡ t → (power_below k n ≡ suc a → 2 ^ suc a ≡ n) → (if t then k else power_below k n) ≡ suc a → 2 ^ suc a ≡ n
+    by true e lower is = ap (λ m. 2 ^ m) (sym is) ∙ sym (eqb-true n (2 ^ k) e)
+    by false e lower is = lower is
+
 power_means : (n x : ℕ) (f : NumberForm) → power_by (power_of n) ≡ Some f → form_value f x ≡ x * n % 2 ^ 32
 unfolding power_of
-power_means n x f is = by (nat_eq n 2) (nat_eq n 4) (nat_eq n 8) (nat_eq n 16) (nat_eq n 32) (nat_eq n 64) (nat_eq n 128) (nat_eq n 256) refl refl refl refl refl refl refl refl is
+power_means n x f is = by (power_below 32 n) refl is
   where
-    power : (k m : ℕ) → 2 ^ k ≡ m → nat_eq n m ≡ true → Some (ByShift Slli k) ≡ Some f → form_value f x ≡ x * n % 2 ^ 32
-    power k m e is_m is_f = ap (λ g. form_value g x) (sym (same_Some _ _ is_f)) ∙ ap (λ c. x * c % 2 ^ 32) (e ∙ sym (eqb-true n m is_m))
-
-    by : (a b c d e g h i : Bool) → nat_eq n 2 ≡ a → nat_eq n 4 ≡ b → nat_eq n 8 ≡ c → nat_eq n 16 ≡ d → nat_eq n 32 ≡ e → nat_eq n 64 ≡ g → nat_eq n 128 ≡ h → nat_eq n 256 ≡ i → power_by (if a then 1 else (if b then 2 else (if c then 3 else (if d then 4 else (if e then 5 else (if g then 6 else (if h then 7 else (if i then 8 else 0)))))))) ≡ Some f → form_value f x ≡ x * n % 2 ^ 32
-    by true b c d e g h i is_a is_b is_c is_d is_e is_g is_h is_i is = power 1 2 refl is_a is
-    by false true c d e g h i is_a is_b is_c is_d is_e is_g is_h is_i is = power 2 4 refl is_b is
-    by false false true d e g h i is_a is_b is_c is_d is_e is_g is_h is_i is = power 3 8 refl is_c is
-    by false false false true e g h i is_a is_b is_c is_d is_e is_g is_h is_i is = power 4 16 refl is_d is
-    by false false false false true g h i is_a is_b is_c is_d is_e is_g is_h is_i is = power 5 32 refl is_e is
-    by false false false false false true h i is_a is_b is_c is_d is_e is_g is_h is_i is = power 6 64 refl is_g is
-    by false false false false false false true i is_a is_b is_c is_d is_e is_g is_h is_i is = power 7 128 refl is_h is
-    by false false false false false false false true is_a is_b is_c is_d is_e is_g is_h is_i is = power 8 256 refl is_i is
-    by false false false false false false false false is_a is_b is_c is_d is_e is_g is_h is_i is = absurd cc
+    by : (k : ℕ) → power_below 32 n ≡ k → power_by k ≡ Some f → form_value f x ≡ x * n % 2 ^ 32
+    by zero e is = absurd cc
+    by (suc a) e is = ap (λ g. form_value g x) (sym (same_Some _ _ is)) ∙ ap (λ c. x * c % 2 ^ 32) (power_is 32 n a e)
 
 -- in its form with a number an operation does what it does with a register that has the number
 pub folded_means : (op : AluOp) (n x : ℕ) (f : NumberForm) → folded op n ≡ Some f → form_value f x ≡ alu_value op x n

@@ -32,7 +32,7 @@ use Rattle.op_optimize.specs.Liveness.{is_dead}
 use Rattle.op_optimize.specs.Reading.{same, target_of}
 use Rattle.op_optimize.specs.Rewriting.{alu_both, and_one, branch, branch_both, branch_by, branch_on, first_of, fold_both, folded_into, is_zero, map_call, map_call_at, map_one, map_two, moved, operands_by, operands_of, operation, rewritten, sources, tested, with_value}
 use Rattle.op_optimize.specs.Simplifying.{SimplifiesBlock, SimplifiesBlocks, SimplifiesRoutine, Simplifies, Stays, and_fact, contents_behind, destination, facts_behind, in_front, last_written, left_out, nothing_of, or_nothing, simplified, stays_as}
-use Rattle.op_optimize.specs.Values.{alu_from, alu_value, folded, is_commutative, near, power_by, power_of, value_behind, value_of, value_with_one}
+use Rattle.op_optimize.specs.Values.{alu_from, alu_value, folded, is_commutative, near, power_below, power_by, power_of, value_behind, value_of, value_with_one}
 use Rattle.op_optimize.specs.declared.block.Way.{Way}
 use Rattle.op_optimize.specs.declared.fact.Fact.{Fact}
 use Rattle.op_optimize.specs.declared.fact.Known.{Known}
@@ -160,20 +160,18 @@ module _ (better : Low) (thinner : Routine) where
     amount_small : (n : ℕ) → nat_lt (n % 32) 32 ≡ true
     amount_small n = lt-ltb _ _ (omega arith)
 
+    power_less : (k n : ℕ) → power_below k n ≤ k - 1
+    unfolding power_below
+    power_less zero n = omega arith
+    power_less (suc k) n = by (nat_eq n (2 ^ k)) (power_less k n)
+      where
+        by : (t : Bool) → power_below k n ≤ k - 1 → (if t then k else power_below k n) ≤ suc k - 1
+        by true less = omega arith
+        by false less = omega arith
+
     power_small : (n : ℕ) → nat_lt (power_of n) 32 ≡ true
     unfolding power_of
-    power_small n = by (nat_eq n 2) (nat_eq n 4) (nat_eq n 8) (nat_eq n 16) (nat_eq n 32) (nat_eq n 64) (nat_eq n 128) (nat_eq n 256)
-      where
-        by : (a b c d e g h i : Bool) → nat_lt (if a then 1 else (if b then 2 else (if c then 3 else (if d then 4 else (if e then 5 else (if g then 6 else (if h then 7 else (if i then 8 else 0)))))))) 32 ≡ true
-        by true b c d e g h i = refl
-        by false true c d e g h i = refl
-        by false false true d e g h i = refl
-        by false false false true e g h i = refl
-        by false false false false true g h i = refl
-        by false false false false false true h i = refl
-        by false false false false false false true i = refl
-        by false false false false false false false true = refl
-        by false false false false false false false false = refl
+    power_small n = let less = power_less 32 n in lt-ltb _ _ (omega arith)
 
     power_valid : (k : ℕ) (a : VirtualRegister) → nat_lt k 32 ≡ true → has thinner a ≡ true → form_valid (power_by k) to a ≡ true
     unfolding form_valid is_valid_instruction shift_fits

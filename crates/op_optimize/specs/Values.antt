@@ -96,11 +96,14 @@ abbrev pub power_by : ℕ → Option NumberForm
 power_by zero = None
 power_by (suc amount) = Some (ByShift Slli (suc amount))
 
--- which power of two a number is, where it is 2 to 256; else 0
+-- the power, below so many, to which 2 is a number; else 0
+unfoldable pub power_below : ℕ → ℕ → ℕ
+power_below zero n = 0
+power_below (suc k) n = if nat_eq n (2 ^ k) then k else power_below k n
+
+-- of a word
 unfoldable pub power_of : ℕ → ℕ
-power_of n =
-    if nat_eq n 2 then 1
-    else (if nat_eq n 4 then 2 else (if nat_eq n 8 then 3 else (if nat_eq n 16 then 4 else (if nat_eq n 32 then 5 else (if nat_eq n 64 then 6 else (if nat_eq n 128 then 7 else (if nat_eq n 256 then 8 else 0)))))))
+power_of n = power_below 32 n
 
 unfoldable pub folded : AluOp → ℕ → Option NumberForm
 folded Add n = near Addi n

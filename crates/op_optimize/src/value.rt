@@ -1,5 +1,5 @@
 //! The values that instructions write, and operations with a number.
-ghost use Rattle.op_optimize.specs.Values.{alu_value, near, opposite_near, power_by, shifted, folded, is_commutative, opposite, power_of, value_behind, value_of, value_with_one};
+ghost use Rattle.op_optimize.specs.Values.{alu_value, near, opposite_near, power_by, shifted, folded, is_commutative, opposite, power_below, power_of, value_behind, value_of, value_with_one};
 ghost use Rattle.std.specs.Prelude.{◌≡◌, ◌<◌};
 
 use crate::fact::{Fact, Known, Value, has_already, source, value_in};
@@ -171,23 +171,20 @@ fn shifted(op: ShiftOp, n: u32) -> Option<NumberForm>
     })
 }
 
-/// Which power of two a number is, where it is 2 to 256; else 0.
+/// Which power of two a number is, where it is 2 to 2 ^ 31; else 0.
 #[tactic(auto, unfolding(crate::specs::Values::power_of))]
 fn power_of(n: u32) -> u8
     ensures value { result ≡ power_of n }
     ensures small { result < 32 }
 {
-    match n {
-        2 => 1,
-        4 => 2,
-        8 => 3,
-        16 => 4,
-        32 => 5,
-        64 => 6,
-        128 => 7,
-        256 => 8,
-        _ => 0,
+    let mut left: u8 = 32;
+    while 0 < left {
+        left -= 1;
+        if n == 1 << left {
+            return left;
+        }
     }
+    0
 }
 
 fn power_shift(n: u32) -> Option<NumberForm>

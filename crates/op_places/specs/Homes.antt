@@ -22,7 +22,7 @@ use Rattle.op_mir.specs.declared.instruction.Call.{Call as Operands}
 use Rattle.op_mir.specs.declared.instruction.Given.{Given}
 use Rattle.op_mir.specs.declared.instruction.Given.TheVariants.{ByValue, ByPlace, ByCopy}
 use Rattle.op_mir.specs.declared.instruction.Instruction.{Instruction}
-use Rattle.op_mir.specs.declared.instruction.Instruction.TheVariants.{Act, Call, Jump, When, Unless, Switch, Dispatch, MakeDue, Stop, Return}
+use Rattle.op_mir.specs.declared.instruction.Instruction.TheVariants.{Act, Call, Jump, When, Unless, Switch, Dispatch, MakeDue, OpenTemporaries, EndTemporary, Stop, Return}
 use Rattle.op_mir.specs.declared.instruction.Receiver.{Receiver}
 use Rattle.op_mir.specs.declared.instruction.Receiver.TheVariants.{Nowhere, Temporary as ToTemporary, Place}
 use Rattle.op_mir.specs.declared.path.Root.{Root}
@@ -81,6 +81,8 @@ with_instruction roots (Unless t block) = roots
 with_instruction roots (Switch t arms) = roots
 with_instruction roots (Dispatch t block) = roots
 with_instruction roots (MakeDue f) = roots
+with_instruction roots (OpenTemporaries ts) = roots
+with_instruction roots (EndTemporary t) = roots
 with_instruction roots (Stop t) = roots
 with_instruction roots Return = roots
 

@@ -2,6 +2,7 @@
 ghost use Rattle.op_primitives.specs.Primitives.{destination_register, literal_code, literal_passed, operand_code, operand_passed, operands_code, operands_passed, primitive_code, routine_of, scratch_for};
 ghost use Rattle.std.specs.Prelude.{◌≡◌, ◌+◌, ◌++◌, IfOk, OnOk};
 ghost use Rattle.op_constants.specs.Texts.{number_of};
+ghost use Rattle.std.specs.Option.{option_map};
 
 use op_base::NoMemory;
 use op_compute::push_const;
@@ -22,39 +23,61 @@ pub fn push_primitive(
     literals: &Texts,
     primitive: Primitive,
     operands: &[Operand],
-    to: Destination,
+    to: &Destination,
 ) -> Result<(), NoMemory>
-    ensures { OnOk result (code.new.items ≡ code.old.items ++ primitive_code frame.now literals.now primitive operands.now to) }
+    ensures { OnOk result (code.new.items ≡ code.old.items ++ primitive_code frame.now literals.now primitive operands.now to.now) }
 {
-    let mut arguments = Vec::new(alloc);
-    push_operands(code, frame, literals, 0, operands, &mut arguments)?;
-    push_call(
-        code,
-        routine_of(primitive),
-        arguments,
-        register_of(frame, to)?,
-    )
+    match routine_of(primitive) {
+        None => Ok(()),
+        Some(routine) => {
+            let mut arguments = Vec::new(alloc);
+            push_operands(code, frame, literals, 0, operands, &mut arguments)?;
+            push_call(code, routine, arguments, register_of(frame, to)?)
+        }
+    }
 }
 
-/// The routine of each.
-fn routine_of(primitive: Primitive) -> RoutineId
-    ensures { result.0 ≡ routine_of primitive }
+/// The routine of each that has one.
+fn routine_of(primitive: Primitive) -> Option<RoutineId>
+    ensures { option_map (λ id. id.0) result ≡ routine_of primitive }
 {
     match primitive {
-        Primitive::WriteNumber => WRITE_NUMBER,
-        Primitive::WriteTruth => WRITE_TRUTH,
-        Primitive::WriteChar => WRITE_CHAR,
-        Primitive::WriteText => WRITE_BYTES,
+        Primitive::WriteNumber => Some(WRITE_NUMBER),
+        Primitive::WriteTruth => Some(WRITE_TRUTH),
+        Primitive::WriteChar => Some(WRITE_CHAR),
+        Primitive::WriteText => Some(WRITE_BYTES),
+        Primitive::Same => None,
+        Primitive::Concatenate => None,
+        Primitive::CompareTexts => None,
+        Primitive::TextLength => None,
+        Primitive::CharAt => None,
+        Primitive::PieceOfText => None,
+        Primitive::TextOfChar => None,
+        Primitive::StrNumber => None,
+        Primitive::StrTruth => None,
+        Primitive::StrChar => None,
+        Primitive::StrText => None,
+        Primitive::ValNumber => None,
+        Primitive::ValCode => None,
+        Primitive::PutChar => None,
+        Primitive::ResizeText => None,
     }
 }
 
 /// Where the routine's value goes; that of a routine that gives nothing goes to a scratch register, which nobody reads there.
-fn register_of(frame: &Frame, to: Destination) -> Result<VirtualRegister, NoMemory>
-    ensures { IfOk result (λ register. register ≡ destination_register frame.now to) }
+fn register_of(frame: &Frame, to: &Destination) -> Result<VirtualRegister, NoMemory>
+    ensures { IfOk result (λ register. register ≡ destination_register frame.now to.now) }
 {
     match to {
         Destination::Unused => frame.bank.scratch(0),
-        Destination::InTemporary(temporary) => frame.bank.temporary(temporary),
+        Destination::InTemporary(temporary) => frame.bank.temporary(*temporary),
+        Destination::InNew { of: _, number: _ } => frame.bank.scratch(0),
+        Destination::IntoPlace {
+            of: _,
+            to: _,
+            old: _,
+        } => frame.bank.scratch(0),
+        Destination::OverPlace { to: _ } => frame.bank.scratch(0),
     }
 }
 
@@ -95,6 +118,7 @@ fn push_operand(
             arguments.push(frame.bank.temporary(*temporary)?)?;
             Ok(used)
         }
+        Operand::Text(_) => Ok(used),
         Operand::Literal(text) => {
             push_literal(code, frame, literals, used, text.as_slice(), arguments)?;
             used.checked_add(2).ok_or(NoMemory)

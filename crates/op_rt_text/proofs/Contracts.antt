@@ -72,13 +72,13 @@ module _ (low : Low) (p : Placement) (m : State) (operands : Operands) (rest : L
   pub bytes_are_copied : (to from count : ℕ) → Copyable p m to from count → Called low p m copy_bytes_number (to ∷ from ∷ count ∷ []) operands rest → Copies low p m operands rest to from count
   bytes_are_copied to from count can called =
       let runtime = called.runtime in
-      copies low p m copy_bytes_number (to ∷ from ∷ count ∷ []) operands rest called to from count (78 + 5 * count) (omega arith)
+      copies low p m copy_bytes_number (to ∷ from ∷ count ∷ []) operands rest called to from count (82 + 5 * count) (omega arith)
       (bytes_copied runtime.others low.entry low.counts low.globals p m operands rest to from count called.passed (runtime.frames copy_bytes_number (omega arith)) (less_room p m 64 (omega arith) called.room) can)
 
   pub value_is_taken : (to size : ℕ) → Copyable p m to (word_at m.memory to) size → to % 4 ≡ 0 → Allowed p.rights.readable m.limit to 4 → Called low p m take_number (to ∷ size ∷ []) operands rest → Copies low p m operands rest to (word_at m.memory to) size
   value_is_taken to size can whole word called =
       let runtime = called.runtime in
-      copies low p m take_number (to ∷ size ∷ []) operands rest called to (word_at m.memory to) size (152 + 5 * size) (omega arith)
+      copies low p m take_number (to ∷ size ∷ []) operands rest called to (word_at m.memory to) size (156 + 5 * size) (omega arith)
       (take_called runtime.others low.entry low.counts low.globals p (runtime.frames copy_words_number (omega arith)) (runtime.frames copy_bytes_number (omega arith)) (runtime.frames take_number (omega arith)) m operands rest to (word_at m.memory to) size called.passed (less_room p m 128 (omega arith) called.room) can whole word refl)
 
   pub memory_is_zeroed : (to count : ℕ) → Clearable p m to count → Called low p m clear_number (to ∷ count ∷ []) operands rest → Clears low p m operands rest to count

@@ -1,6 +1,5 @@
 -- Calls of the routines that copy memory.
-use Rattle.std.proofs.Common.{◌≡◌, ℕ, ◌+◌, ◌-◌, ◌*◌, ◌/◌, ◌%◌, ◌^◌, ◌<◌, ◌≤◌, inl, inr, ◌&&◌, cond, nat_le, nat_lt, List, [], ◌∷◌, length, replicate, slice_index, refl, ap, sym, subst, ◌∙◌, arith}
-use Rattle.std.proofs.lemmas.Bool.{cases_lt}
+use Rattle.std.proofs.Common.{◌≡◌, ℕ, ◌+◌, ◌-◌, ◌*◌, ◌%◌, ◌^◌, ◌<◌, ◌≤◌, ◌&&◌, cond, nat_le, nat_lt, List, [], ◌∷◌, length, replicate, slice_index, refl, ap, sym, subst, ◌∙◌, arith}
 use Rattle.std.proofs.lemmas.List.{length-map}
 use Rattle.op_low.specs.State.{Placement, State, block_of, routine_of, space, value, values}
 use Rattle.op_low.specs.declared.code.Counts.{Counts}
@@ -12,13 +11,11 @@ use Rattle.op_low.specs.declared.instruction.Instruction.TheVariants.{Call}
 use Rattle.op_rt_text.specs.Names.{copy_bytes_number, copy_words_number, routine_id}
 use Rattle.op_rt_text.specs.Running.{Copyable, HasRoom, behind}
 use Rattle.op_rt_text.proofs.Calls.{cleared, inside, walk_enter}
-use Rattle.op_rt_text.proofs.CopyRun.{CopiedInside, moved_is, none_copied, some_copied, unit_byte, unit_word}
+use Rattle.op_rt_text.proofs.CopyRun.{CopiedInside, bytes_inside, moved_is, words_inside}
 use Rattle.op_rt_text.proofs.Programs.{may_enter, program}
 use Rattle.op_rt_text.proofs.Walks.{Walk, standing, walk_longer, walk_then}
 use Rattle.op_rv.proofs.Memory.{bytes_from-same, with_bytes-below}
 use Rattle.op_rv.specs.State.{bytes_from, with_bytes}
-use Rattle.op_rv.specs.declared.instruction.LoadOp.TheVariants.{Lbu, Lw}
-use Rattle.op_rv.specs.declared.instruction.StoreOp.TheVariants.{Sb, Sw}
 use Rattle.op_rv.specs.declared.objects.GlobalVariable.{GlobalVariable}
 use Rattle.op_rv.specs.declared.symbol.RoutineId.{RoutineId}
 
@@ -70,48 +67,33 @@ module _ (others : List Routine) (entry : RoutineId) (named : Counts) (globals :
             walk_longer (walk_then (subst (λ vs. Walk low p before (first vs) [] cost) are enters) body.walk) (omega arith);
       }
 
-  -- bytes below the limit are bytes where the routine begins
-  pub begun_bytes : (m : State) (r to from count : ℕ) → Copyable p m to from count → (x : ℕ) → from ≤ x → x < from + count → cleared low m r x < 2 ^ 8
-  begun_bytes m r to from count can x at before =
+  -- what may be copied may be where the routine begins
+  begun_copyable : (m : State) (r to from count : ℕ) → Copyable p m to from count → Copyable p (record m { memory = cleared low m r }) to from count
+  begun_copyable m r to from count can =
       let below = can.source.below in
-      subst (λ b. b < 2 ^ 8) (sym (with_bytes-below m.memory m.limit (replicate {A = ℕ} (routine_of low r).locals 0) x (omega arith))) (can.bytes x at before)
+      record {
+        target = can.target;
+        source = can.source;
+        bytes = λ x at before. subst (λ b. b < 2 ^ 8) (sym (with_bytes-below m.memory m.limit (replicate {A = ℕ} (routine_of low r).locals 0) x (omega arith))) (can.bytes x at before);
+        apart = can.apart;
+      }
 
   pub words_called : (m : State) (operands : Operands) (rest : List Instruction) (to from count : ℕ) → values m operands.arguments ≡ to ∷ from ∷ count ∷ [] → p.frame copy_words_number ≤ 64 → HasRoom p m 64 → Copyable p m to from count → to % 4 ≡ 0 → from % 4 ≡ 0 → count % 4 ≡ 0 → Copied low p m copy_words_number operands rest to from count (78 + 2 * count)
   words_called m operands rest to from count passed small room can to_whole from_whole whole =
       let least = room.room in
       let has : space low p copy_words_number ≤ m.room = omega arith in
-      let target_below = can.target.below in
-      let source_below = can.source.below in
+      let arguments = to ∷ from ∷ count ∷ [] in
       let memory = cleared low m copy_words_number in
-      let calls = λ (inner : ℕ) (enough : inner ≤ 10 + 2 * count) (body : CopiedInside low p m copy_words_number operands rest (slice_index (to ∷ from ∷ count ∷ [])) (block_of low copy_words_number 0) memory to from count inner). call_copied m copy_words_number operands rest (to ∷ from ∷ count ∷ []) (omega arith) passed refl has to from count inner (78 + 2 * count) source_below (omega arith) (below_of low p m copy_words_number operands rest (slice_index (to ∷ from ∷ count ∷ [])) (block_of low copy_words_number 0) memory to from count inner body) in
-      elim (cases_lt 0 count) [
-        | inl some ↦
-            let split : count ≡ 4 + 4 * (count / 4 - 1) = omega arith in
-            calls (5 * (count / 4 - 1) + 10) (omega arith)
-            (some_copied low p copy_words_number Lw Sw 4 (omega arith) (omega arith) refl refl unit_word refl refl m operands rest room has (count / 4 - 1) count split to from memory can.target can.source to_whole from_whole can.apart (begun_bytes m copy_words_number to from count can))
-        | inr nothing ↦
-            let none : 0 ≡ count = omega arith in
-            calls 3 (omega arith)
-            (subst (λ n. CopiedInside low p m copy_words_number operands rest (slice_index (to ∷ from ∷ n ∷ [])) (block_of low copy_words_number 0) memory to from n 3) none
-            (none_copied low p copy_words_number Lw Sw 4 (omega arith) (omega arith) refl refl unit_word refl refl m operands rest room has to from memory (omega arith)))
-      ]
+      let body = words_inside low p copy_words_number m operands rest room has refl refl refl refl to from count memory (begun_copyable m copy_words_number to from count can) to_whole from_whole whole in
+      call_copied m copy_words_number operands rest arguments (omega arith) passed refl has to from count (10 + 2 * count) (78 + 2 * count) can.source.below (omega arith)
+      (below_of low p m copy_words_number operands rest (slice_index arguments) (block_of low copy_words_number 0) memory to from count (10 + 2 * count) body)
 
-  pub bytes_copied : (m : State) (operands : Operands) (rest : List Instruction) (to from count : ℕ) → values m operands.arguments ≡ to ∷ from ∷ count ∷ [] → p.frame copy_bytes_number ≤ 64 → HasRoom p m 64 → Copyable p m to from count → Copied low p m copy_bytes_number operands rest to from count (78 + 5 * count)
+  pub bytes_copied : (m : State) (operands : Operands) (rest : List Instruction) (to from count : ℕ) → values m operands.arguments ≡ to ∷ from ∷ count ∷ [] → p.frame copy_bytes_number ≤ 64 → HasRoom p m 64 → Copyable p m to from count → Copied low p m copy_bytes_number operands rest to from count (82 + 5 * count)
   bytes_copied m operands rest to from count passed small room can =
       let least = room.room in
       let has : space low p copy_bytes_number ≤ m.room = omega arith in
-      let target_below = can.target.below in
-      let source_below = can.source.below in
+      let arguments = to ∷ from ∷ count ∷ [] in
       let memory = cleared low m copy_bytes_number in
-      let calls = λ (inner : ℕ) (enough : inner ≤ 10 + 5 * count) (body : CopiedInside low p m copy_bytes_number operands rest (slice_index (to ∷ from ∷ count ∷ [])) (block_of low copy_bytes_number 0) memory to from count inner). call_copied m copy_bytes_number operands rest (to ∷ from ∷ count ∷ []) (omega arith) passed refl has to from count inner (78 + 5 * count) source_below (omega arith) (below_of low p m copy_bytes_number operands rest (slice_index (to ∷ from ∷ count ∷ [])) (block_of low copy_bytes_number 0) memory to from count inner body) in
-      elim (cases_lt 0 count) [
-        | inl some ↦
-            let split : count ≡ 1 + 1 * (count - 1) = omega arith in
-            calls (5 * (count - 1) + 10) (omega arith)
-            (some_copied low p copy_bytes_number Lbu Sb 1 (omega arith) (omega arith) refl refl unit_byte refl refl m operands rest room has (count - 1) count split to from memory can.target can.source (omega arith) (omega arith) can.apart (begun_bytes m copy_bytes_number to from count can))
-        | inr nothing ↦
-            let none : 0 ≡ count = omega arith in
-            calls 3 (omega arith)
-            (subst (λ n. CopiedInside low p m copy_bytes_number operands rest (slice_index (to ∷ from ∷ n ∷ [])) (block_of low copy_bytes_number 0) memory to from n 3) none
-            (none_copied low p copy_bytes_number Lbu Sb 1 (omega arith) (omega arith) refl refl unit_byte refl refl m operands rest room has to from memory (omega arith)))
-      ]
+      let body = bytes_inside low p copy_bytes_number m operands rest room has refl refl refl refl to from count memory (begun_copyable m copy_bytes_number to from count can) in
+      call_copied m copy_bytes_number operands rest arguments (omega arith) passed refl has to from count (14 + 5 * count) (82 + 5 * count) can.source.below (omega arith)
+      (below_of low p m copy_bytes_number operands rest (slice_index arguments) (block_of low copy_bytes_number 0) memory to from count (14 + 5 * count) body)

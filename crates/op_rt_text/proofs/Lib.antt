@@ -15,5 +15,6 @@ pub mod Signs
 pub mod TakeRun
 pub mod ThenBytes
 pub mod TruthRun
+pub mod Turns
 pub mod ValidRoutines
 pub mod Walks

@@ -124,9 +124,9 @@ module _ (others : List Routine) (entry : RoutineId) (named : Counts) (globals :
         returned copy_words_number registers (78 + 2 * size)
         (words_called others entry named globals p (here registers [] memory) the_call (Return (register 3) ∷ []) to from size (ap₂ (λ a vs. a ∷ vs) to_is (ap₂ (λ a b. a ∷ b ∷ []) from_is size_is)) small_words (inner_room registers) (inner_can registers) whole from_whole size_whole)
 
-    by_bytes : (registers : ℕ → ℕ) → registers 0 ≡ to → registers 1 ≡ size → registers 2 ≡ from → CopiedBelow low p m take_number operands rest registers (copies copy_bytes_number) memory to from size (78 + 5 * size + 1)
+    by_bytes : (registers : ℕ → ℕ) → registers 0 ≡ to → registers 1 ≡ size → registers 2 ≡ from → CopiedBelow low p m take_number operands rest registers (copies copy_bytes_number) memory to from size (82 + 5 * size + 1)
     by_bytes registers to_is size_is from_is =
-        returned copy_bytes_number registers (78 + 5 * size)
+        returned copy_bytes_number registers (82 + 5 * size)
         (bytes_copied others entry named globals p (here registers [] memory) the_call (Return (register 3) ∷ []) to from size (ap₂ (λ a vs. a ∷ vs) to_is (ap₂ (λ a b. a ∷ b ∷ []) from_is size_is)) small_bytes (inner_room registers) (inner_can registers))
 
     abbrev from_left : ℕ → ℕ
@@ -147,7 +147,7 @@ module _ (others : List Routine) (entry : RoutineId) (named : Counts) (globals :
         let same : nat_eq (with_left registers a 3) 0 ≡ true = grind (arith, nat_tests, left, none) in
         ap not same
 
-    by_size : from % 4 ≡ 0 → CopiedBelow low p m take_number operands rest size_left (drop 4 begins) memory to from size (80 + 5 * size + 1)
+    by_size : from % 4 ≡ 0 → CopiedBelow low p m take_number operands rest size_left (drop 4 begins) memory to from size (84 + 5 * size + 1)
     by_size from_whole =
         elim (cases_lt 0 (size % 4)) [
           | inl some ↦
@@ -162,7 +162,7 @@ module _ (others : List Routine) (entry : RoutineId) (named : Counts) (globals :
               (omega arith)
         ]
 
-    by_from : CopiedBelow low p m take_number operands rest from_left (drop 2 begins) memory to from size (82 + 5 * size + 1)
+    by_from : CopiedBelow low p m take_number operands rest from_left (drop 2 begins) memory to from size (86 + 5 * size + 1)
     by_from =
         elim (cases_lt 0 (from % 4)) [
           | inl some ↦
@@ -177,12 +177,12 @@ module _ (others : List Routine) (entry : RoutineId) (named : Counts) (globals :
               (omega arith)
         ]
 
-    take_inside : CopiedBelow low p m take_number operands rest given begins memory to from size (84 + 5 * size + 1)
+    take_inside : CopiedBelow low p m take_number operands rest given begins memory to from size (88 + 5 * size + 1)
     take_inside = then_copied (walk_then load_step from_step) by_from (omega arith)
 
   -- a call of the routine
-  pub take_called : (m : State) (operands : Operands) (rest : List Instruction) (to from size : ℕ) → values m operands.arguments ≡ to ∷ size ∷ [] → HasRoom p m 128 → Copyable p m to from size → to % 4 ≡ 0 → Allowed p.rights.readable m.limit to 4 → word_at m.memory to ≡ from → Copied low p m take_number operands rest to from size (152 + 5 * size)
+  pub take_called : (m : State) (operands : Operands) (rest : List Instruction) (to from size : ℕ) → values m operands.arguments ≡ to ∷ size ∷ [] → HasRoom p m 128 → Copyable p m to from size → to % 4 ≡ 0 → Allowed p.rights.readable m.limit to 4 → word_at m.memory to ≡ from → Copied low p m take_number operands rest to from size (156 + 5 * size)
   take_called m operands rest to from size passed room can whole word is =
       let least = room.room in
-      call_copied others entry named globals p m take_number operands rest (to ∷ size ∷ []) (omega arith) passed refl (omega arith) to from size (84 + 5 * size + 1) (152 + 5 * size) can.source.below (omega arith)
+      call_copied others entry named globals p m take_number operands rest (to ∷ size ∷ []) (omega arith) passed refl (omega arith) to from size (88 + 5 * size + 1) (156 + 5 * size) can.source.below (omega arith)
       (take_inside m operands rest to from size room can whole (cleared low m take_number) (λ x lower. with_bytes-below m.memory m.limit (replicate {A = ℕ} 0 0) x lower) word is)

@@ -62,6 +62,11 @@ walk_longer walk more =
     record { steps = walk.steps; few = omega arith; ends = walk.ends; shown = walk.shown; within = omega arith }
 
 module _ (low : Low) (p : Placement) where
+  -- no instruction
+  pub walk_none : (m : State) → Walk low p m m [] 0
+  unfolding run trace spent
+  walk_none m = record { steps = 0; few = omega arith; ends = refl; shown = refl; within = omega arith }
+
   -- one instruction
   pub walk_act : (m c : State) (i : Instruction) (is : List Instruction) (pieces : List (List ℕ)) → act low p i (standing m is) ≡ c → shown_by p i (standing m (i ∷ is)) ≡ all_written pieces → (most : ℕ) → 1 ≤ most → cost_by low p i (standing m (i ∷ is)) ≤ most → Walk low p (standing m (i ∷ is)) c pieces most
   unfolding step step_by_ending done run trace spent shows cost

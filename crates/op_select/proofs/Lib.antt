@@ -1,12 +1,12 @@
 mod ArrivalLemmas
 pub mod Beginning
 mod CallSteps
-mod ClearLemmas
+pub mod ClearLemmas
 mod ControlSteps
 mod EnterLemmas
 pub mod Following
 mod ExamplePlaced
-mod FrameLemmas
+pub mod FrameLemmas
 mod HeadLemmas
 mod Loops
 mod OperationLemmas

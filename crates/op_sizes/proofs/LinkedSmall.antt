@@ -62,11 +62,11 @@ module _ (known : List RoutinePlace) where
       let rest = routines_less (suc r) (behind_routine known r spot routine) routines in
       omega (arith, first, rest)
 
--- the six instructions in front, the routines, the constants and the globals that do not begin as zero
-linked_by : (known : List RoutinePlace) (layout : Layout) (objects : Objects) → linked_size_by known layout objects ≤ 24 + routines_bytes objects.routines + constants_size layout + initial_size objects.globals
+-- the 18 instructions in front, the routines, the constants and the globals that do not begin as zero
+linked_by : (known : List RoutinePlace) (layout : Layout) (objects : Objects) → linked_size_by known layout objects ≤ 72 + routines_bytes objects.routines + constants_size layout + initial_size objects.globals
 unfolding linked_size_by sizes_of placement_by
 linked_by known layout objects = let e = routines_less known 0 first_spot objects.routines in omega (arith, e)
 
-pub linked_less : (objects : Objects) (layout : Layout) (settings : Settings) → linked_size objects layout settings ≤ 24 + routines_bytes objects.routines + constants_size layout + initial_size objects.globals
+pub linked_less : (objects : Objects) (layout : Layout) (settings : Settings) → linked_size objects layout settings ≤ 72 + routines_bytes objects.routines + constants_size layout + initial_size objects.globals
 unfolding linked_size
 linked_less objects layout settings = linked_by (settled layout objects settings) layout objects

@@ -18,7 +18,7 @@ use Rattle.op_places.specs.Homes.{parameter, rounded}
 use Rattle.op_expand.specs.Actions.{action_code, begun_by, begun_code, composite_begun, zeros_begun, number_begun, parts_begun, row_of}
 use Rattle.op_places.specs.Moves.{by_words, bytes_code, copy_code, copy_number, held, is_short, limit_of, load_code, load_op, near, store_code, store_op, taken_code, unit_code, units_code, units_in}
 use Rattle.op_places.specs.Places.{after, at_register, behind_code, element_code, home_code, home_of, home_spot, index_code, place_code, place_of, power_of, reach_code, scale_code, scaled, step_code, step_spot, steps_code, steps_spot}
-use Rattle.op_primitives.specs.Primitives.{destination_register, operands_code, operands_passed, primitive_code, routine_of}
+use Rattle.op_primitives.specs.Primitives.{call_by, destination_register, operands_code, operands_passed, routine_of}
 use Rattle.op_expand.specs.Routines.{instruction_code}
 use Rattle.op_places.specs.declared.frame.Frame.{Frame}
 use Rattle.op_places.specs.declared.frame.Returning.{Returning}
@@ -36,14 +36,14 @@ use Rattle.op_mir.specs.declared.action.Action.{Action}
 use Rattle.op_mir.specs.declared.action.Action.TheVariants.{Constant, Load, Store, Copy, Look, BeginWith, Pick, Compute, Do}
 use Rattle.op_mir.specs.declared.action.Destination.{Destination}
 use Rattle.op_mir.specs.declared.action.Operand.{Operand}
-use Rattle.op_mir.specs.declared.action.Operand.TheVariants.{Number, Literal}
+use Rattle.op_mir.specs.declared.action.Operand.TheVariants.{Number, Text, Literal}
 use Rattle.op_mir.specs.declared.code.Mir.{Mir}
 use Rattle.op_mir.specs.declared.ids.LocalId.{LocalId}
 use Rattle.op_mir.specs.declared.instruction.Call.{Call}
 use Rattle.op_mir.specs.declared.instruction.Given.{Given}
 use Rattle.op_mir.specs.declared.instruction.Given.TheVariants.{ByValue, ByPlace, ByCopy}
 use Rattle.op_mir.specs.declared.instruction.Instruction.{Instruction}
-use Rattle.op_mir.specs.declared.instruction.Instruction.TheVariants.{Act, Call as CallOf, Jump, When, Unless, Switch, Dispatch, MakeDue, Stop, Return}
+use Rattle.op_mir.specs.declared.instruction.Instruction.TheVariants.{Act, Call as CallOf, Jump, When, Unless, Switch, Dispatch, MakeDue, OpenTemporaries, EndTemporary, Stop, Return}
 use Rattle.op_mir.specs.declared.instruction.Receiver.{Receiver}
 use Rattle.op_mir.specs.declared.instruction.Receiver.TheVariants.{Nowhere, Temporary as ToTemporary, Place}
 use Rattle.op_mir.specs.declared.path.Path.{Path}
@@ -228,11 +228,13 @@ module _ (core : Core) (frame : Frame) where
   operands_small : (texts : List (List ℕ)) (used : ℕ) (os : List Operand) → code_weight (operands_code frame texts used os) + length (operands_passed frame used os) ≤ operands_size (map view_operand os)
   operands_small texts used [] = omega arith
   operands_small texts used (Number t ∷ os) = let rest = operands_small texts (used + 0) os in omega (arith, rest)
+  operands_small texts used (Text path ∷ os) = let rest = operands_small texts (used + 0) os in omega (arith, rest)
   operands_small texts used (Literal text ∷ os) = let rest = operands_small texts (used + 2) os in omega (arith, rest)
 
-  primitive_small : (texts : List (List ℕ)) (p : Primitive) (os : List Operand) (to : Destination) → code_weight (primitive_code frame texts p os to) ≤ 1 + operands_size (map view_operand os)
-  primitive_small texts p os to =
-      let all = join (operands_code frame texts 0 os) (call (routine_of p) (operands_passed frame 0 os) (destination_register frame to) ∷ []) in
+  call_by_small : (texts : List (List ℕ)) (routine : Option ℕ) (os : List Operand) (to : Destination) → code_weight (call_by frame texts routine os to) ≤ 1 + operands_size (map view_operand os)
+  call_by_small texts None os to = omega arith
+  call_by_small texts (Some routine) os to =
+      let all = join (operands_code frame texts 0 os) (call routine (operands_passed frame 0 os) (destination_register frame to) ∷ []) in
       let few = operands_small texts 0 os in
       omega (arith, all, few)
 
@@ -248,7 +250,7 @@ module _ (core : Core) (frame : Frame) where
   action_small r texts (BeginWith v) = begun_small texts v
   action_small r texts (Pick to text index) = omega arith
   action_small r texts (Compute c) = computation_small frame.bank c
-  action_small r texts (Do p os to) = primitive_small texts p os to
+  action_small r texts (Do p os to) = call_by_small texts (routine_of p) os to
 
   -- ---- calls
 
@@ -335,5 +337,7 @@ module _ (core : Core) (frame : Frame) where
   instruction_small mir r texts (Switch t arms) = switch_small (work_of frame.bank) (register_of frame.bank t) arms
   instruction_small mir r texts (Dispatch t block) = dispatch_small (work_of frame.bank) (register_of frame.bank t) block
   instruction_small mir r texts (MakeDue f) = omega arith
+  instruction_small mir r texts (OpenTemporaries ts) = omega arith
+  instruction_small mir r texts (EndTemporary t) = omega arith
   instruction_small mir r texts (Stop t) = either (has_closing core) (closing_call core (register_of frame.bank t) ∷ []) (Move left (register_of frame.bank t) ∷ Exit left ∷ []) 3 (omega arith) (omega arith)
   instruction_small mir r texts Return = return_small frame.returning

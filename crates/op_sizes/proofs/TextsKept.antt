@@ -11,7 +11,7 @@ use Rattle.op_core.specs.declared.program.Core.{Core}
 use Rattle.op_lower.specs.Seen.{seen, seen_blocks}
 use Rattle.op_meaning.specs.Actions.{Action, begin_with, pick, primitive}
 use Rattle.op_meaning.specs.Items.{Item, act, also, choose, select, loop, body_first, protect, leave, enter, scoped, attempt, throw, rethrow, halt, construct, free, Items, none, then_do, Turns, turns, Cases, no_cases, cases}
-use Rattle.op_meaning.specs.Primitives.{Operand, from_temp, literal_text}
+use Rattle.op_meaning.specs.Primitives.{Operand, from_temp, literal_text, text_at}
 use Rattle.op_meaning.specs.Shapes.{Shape, composite, of_chars, of_elements, of_instance, shape_of, single, type_of_local}
 use Rattle.op_meaning.specs.World.{Temporary}
 use Rattle.op_mir.specs.Code.{Instr, do_act, do_call, jump, when, unless, switch, dispatch, make_due, open_temporaries, end_temporary, stop, ret, branch_if, branch_unless, Exits, is_jump, continued, loop_exits, finally_exits, ends, scope_exits, routine_exits, code, code_item, code_loop, code_cases, blocks_of}
@@ -19,10 +19,10 @@ use Rattle.op_mir.specs.View.{first_at, view_action, view_instruction, view_oper
 use Rattle.op_mir.specs.declared.action.Action.TheVariants.{BeginWith, Compute, Constant, Copy, Load, Look, Pick, Store, Do}
 use Rattle.op_mir.specs.declared.action.Action.{Action as OwnAction}
 use Rattle.op_mir.specs.declared.action.Operand.{Operand as OwnOperand}
-use Rattle.op_mir.specs.declared.action.Operand.TheVariants.{Number, Literal}
+use Rattle.op_mir.specs.declared.action.Operand.TheVariants.{Number, Text, Literal}
 use Rattle.op_mir.specs.declared.code.Block.{Block}
 use Rattle.op_mir.specs.declared.code.Routine.{Routine}
-use Rattle.op_mir.specs.declared.instruction.Instruction.TheVariants.{Act, Call, Dispatch, Jump, MakeDue, Return, Stop, Switch, Unless, When}
+use Rattle.op_mir.specs.declared.instruction.Instruction.TheVariants.{Act, Call, Dispatch, EndTemporary, Jump, MakeDue, OpenTemporaries, Return, Stop, Switch, Unless, When}
 use Rattle.op_mir.specs.declared.instruction.Instruction.{Instruction}
 
 -- what texts count for, where each counts for so much
@@ -47,7 +47,8 @@ module _ (w : List ℕ → ℕ) (core : Core) where
   abbrev pub operands_text : List Operand → ℕ
   operands_text [] = 0
   operands_text (from_temp t ∷ os) = operands_text os
-  operands_text (literal_text text ∷ os) = w text + operands_text os
+  operands_text (text_at path ∷ os) = operands_text os
+  operands_text (literal_text bytes ∷ os) = w bytes + operands_text os
 
   abbrev pub action_text : Action → ℕ
   action_text (primitive p operands to) = operands_text operands
@@ -261,6 +262,7 @@ module _ (w : List ℕ → ℕ) (core : Core) where
   operands_kept : (os : List OwnOperand) → total w (operands_literals os) ≤ operands_text w core (map view_operand os)
   operands_kept [] = omega arith
   operands_kept (Number t ∷ os) = let rest = operands_kept os in omega (arith, rest)
+  operands_kept (Text path ∷ os) = let rest = operands_kept os in omega (arith, rest)
   operands_kept (Literal text ∷ os) = let rest = operands_kept os in omega (arith, rest)
 
   action_kept : (r : ℕ) (a : OwnAction) → total w (action_literals core r a) ≤ action_text w core (view_action core r a)
@@ -283,6 +285,8 @@ module _ (w : List ℕ → ℕ) (core : Core) where
   instruction_kept r (Switch t arms) = omega arith
   instruction_kept r (Dispatch t block) = omega arith
   instruction_kept r (MakeDue f) = omega arith
+  instruction_kept r (OpenTemporaries ts) = omega arith
+  instruction_kept r (EndTemporary t) = omega arith
   instruction_kept r (Stop t) = omega arith
   instruction_kept r Return = omega arith
 

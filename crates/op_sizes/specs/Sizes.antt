@@ -3,7 +3,7 @@ use Rattle.std.specs.Prelude.{ℕ, ◌+◌, ◌*◌, List, [], ◌∷◌, length
 use Rattle.op_meaning.specs.Actions.{Action, constant, load, store, copy, look, begin_with, pick, arithmetic, compare, negate, complement, invert, absolute, odd, upper, low_bits, check, neighbour, single, span, combine, contains, check_set, primitive}
 use Rattle.op_meaning.specs.Items.{Given, by_value, by_place, by_copy, Receiver, nowhere, to_temp, to_place, Item, act, also, choose, select, loop, body_first, protect, leave, enter, scoped, attempt, throw, rethrow, halt, construct, free, Items, none, then_do, Turns, turns, Cases, no_cases, cases}
 use Rattle.op_meaning.specs.Paths.{Path}
-use Rattle.op_meaning.specs.Primitives.{Operand, from_temp, literal_text}
+use Rattle.op_meaning.specs.Primitives.{Operand, from_temp, literal_text, text_at}
 use Rattle.op_mir.specs.Code.{Arm, Instr, do_act, do_call, jump, when, unless, switch, dispatch, make_due, open_temporaries, end_temporary, stop, ret}
 
 -- ---- instructions of managed code
@@ -15,7 +15,8 @@ path_size p = 3 + 7 * length p.steps
 -- what an operand passes counts with the call once more
 abbrev pub operand_size : Operand → ℕ
 operand_size (from_temp t) = 1
-operand_size (literal_text text) = 4
+operand_size (text_at path) = path_size path
+operand_size (literal_text bytes) = 4
 
 abbrev pub operands_size : List Operand → ℕ
 operands_size [] = 0

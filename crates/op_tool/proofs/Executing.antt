@@ -7,6 +7,7 @@ use Rattle.op_correctness.specs.Agrees.{EndsAsMeant, GoesAlong, LooksAsMeant}
 use Rattle.op_emu.specs.Filling.{AreBytes}
 use Rattle.op_image.specs.Means.{image_run}
 use Rattle.op_link.specs.Image.{start}
+use Rattle.op_link.specs.Memory.{heap_size}
 use Rattle.op_rv.specs.State.{State, Ended, Faulted}
 use Rattle.op_rv.specs.Step.{CallsRead, after}
 use Rattle.op_select.specs.Going.{IsSafe}
@@ -31,14 +32,14 @@ unfolding IsSafe
 never_faults e kind pc is safe = subst IsSafe is safe
 
 module _ (words : List (List ℕ)) (stored : Option (List NamedFile)) (before now count count' : ℕ) (image : List ℕ) (asked : Asked) (made : Made stored asked.operand asked.settings image) where
-  along : (done : Effect) → AreBytes done.input → GoesAlong (meant made.core asked.settings) image done.input
+  along : (done : Effect) → AreBytes done.input → GoesAlong (meant made.core asked.settings) (heap_size asked.settings) image done.input
   along done bytes = made.is_image.agrees.along done.input bytes
 
   ends : (done : Effect) (status : ℕ) → AreBytes done.input → (after done.steps (start image done.input)).ending ≡ Ended status → let s = after done.steps (start image done.input) in EndsAsMeant (meant made.core asked.settings) done.input status s.output s.errors s.input
   ends done status bytes is =
       let same : image_run image done.input done.steps ≡ after done.steps (start image done.input) = runs_so done.steps (start image done.input) in
       subst (λ (s : State). EndsAsMeant (meant made.core asked.settings) done.input status s.output s.errors s.input) same
-      (ends_as_meant (meant made.core asked.settings) image done.input (along done bytes) done.steps status (ap (λ (s : State). s.ending) same ∙ is))
+      (ends_as_meant (meant made.core asked.settings) (heap_size asked.settings) image done.input (along done bytes) done.steps status (ap (λ (s : State). s.ending) same ∙ is))
 
   exec_owes : (answer : Finish) (done : Effect) → AreBytes done.input → OwesImage image asked.steps count count' answer done → OwesExec (call words stored before now count count' image) asked answer done
   exec_owes (finish.Ended status) done bytes (few, (meets, (ended, left, (out, err)))) =
@@ -56,7 +57,7 @@ module _ (words : List (List ℕ)) (stored : Option (List NamedFile)) (before no
       let left_bytes : AreBytes done.left = bytes_behind taken done.left (subst AreBytes parts bytes) in
       let found = subst (λ input. let s = after done.steps (start image input) in WantsBeyond s done.left × HasWritten s (line (codes "opc: read fault")) done) (sym parts) (faults done.left left_bytes) in
       let there : image_run image done.input done.steps ≡ after done.steps (start image done.input) = runs_so done.steps (start image done.input) in
-      let looks = looks_as_meant (meant made.core asked.settings) image done.input (along done bytes) done.steps (subst CallsRead (sym there) found.0.calls) in
+      let looks = looks_as_meant (meant made.core asked.settings) (heap_size asked.settings) image done.input (along done bytes) done.steps (subst CallsRead (sym there) found.0.calls) in
       let s = after done.steps (start image done.input) in
       inr (record {
         made = made;

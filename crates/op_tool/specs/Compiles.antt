@@ -17,7 +17,7 @@ use Rattle.op_core.specs.declared.program.Core.{Core}
 use Rattle.op_correctness.specs.Agrees.{Agrees}
 use Rattle.op_lower.specs.Lowers.{Lowers}
 use Rattle.op_link.specs.Linking.{linked_size}
-use Rattle.op_link.specs.Memory.{most_linked}
+use Rattle.op_link.specs.Memory.{heap_size, most_linked}
 use Rattle.op_link.specs.declared.memory_map.Settings.{Settings}
 use Rattle.op_meaning.specs.Frames.{Program, program_of}
 use Rattle.op_mir.specs.Valid.{is_valid}
@@ -69,7 +69,7 @@ pub record IsImage (core : Core) (settings : Settings) (image : List ℕ) : Type
   pub lowers : Lowers core mir
   pub valid : is_valid core mir ≡ true
   pub built : IsBuilt core mir settings image
-  pub agrees : Agrees (meant core settings) image
+  pub agrees : Agrees (meant core settings) (heap_size settings) image
   pub small : linked_size (select_of built.better) (program_layout core mir) settings ≤ program_size core
 
 -- an image of the program in the file, with what it gets to run

@@ -52,9 +52,9 @@ line_feed_short : IsShortText line_feed
 line_feed_short = (omega arith, All-cons (λ b. b < 256) 10 [] (omega arith) (All-nil (λ b. b < 256)))
 
 write_by_typed : (core : Core) (r : ℕ) (o : Option CoreType) (t : ℕ) → IsTypedAction core r (write_by o t)
-write_by_typed core r (Some Boolean) t = record { sorts = refl; each = (tt, (tt, tt)); taken = tt }
-write_by_typed core r (Some Char) t = record { sorts = refl; each = (tt, (tt, tt)); taken = tt }
-write_by_typed core r _ t = record { sorts = refl; each = (tt, (tt, tt)); taken = tt }
+write_by_typed core r (Some Boolean) t = record { sorts = refl; each = (tt, (tt, tt)); taken = tt; nothing = refl }
+write_by_typed core r (Some Char) t = record { sorts = refl; each = (tt, (tt, tt)); taken = tt; nothing = refl }
+write_by_typed core r _ t = record { sorts = refl; each = (tt, (tt, tt)); taken = tt; nothing = refl }
 
 module _ (core : Core) (sound : IsSound core) (simple : IsSimpleProgram core) (r : ℕ) (x : Routine) (is_there : slice_get core.routines r ≡ Some x) where
   -- ---- Write
@@ -64,7 +64,7 @@ module _ (core : Core) (sound : IsSound core) (simple : IsSimpleProgram core) (r
       let w = write_by (host core (type_at core of)) here.temp in
       both core r f.items (width & only (act w)) h (both core r width (only (act w)) k (write_by_typed core r (host core (type_at core of)) here.temp, tt))
   written_typed here of f width (at_path p) h k own = absurd own
-  written_typed here of f width (a_text bytes) h k own = both core r f.items (width & only (act (write_text bytes (here.temp + 1)))) h (both core r width (only (act (write_text bytes (here.temp + 1)))) k (record { sorts = refl; each = (own, (tt, tt)); taken = tt }, tt))
+  written_typed here of f width (a_text bytes) h k own = both core r f.items (width & only (act (write_text bytes (here.temp + 1)))) h (both core r width (only (act (write_text bytes (here.temp + 1)))) k (record { sorts = refl; each = (own, (tt, tt)); taken = tt; nothing = refl }, tt))
 
   no_width_typed : (here : Here) → AreTyped core r (no_width here)
   no_width_typed here = (omega (arith, ints), tt)
@@ -87,7 +87,7 @@ module _ (core : Core) (sound : IsSound core) (simple : IsSimpleProgram core) (r
 
   end_typed : (here : Here) (ends : Bool) → AreTyped core r (line_end here ends)
   end_typed here false = tt
-  end_typed here true = (omega (arith, ints), (record { sorts = refl; each = (line_feed_short, (tt, tt)); taken = tt }, tt))
+  end_typed here true = (omega (arith, ints), (record { sorts = refl; each = (line_feed_short, (tt, tt)); taken = tt; nothing = refl }, tt))
 
   -- ---- Inc, Dec, Include and Exclude
 

@@ -23,7 +23,7 @@ use Rattle.op_meaning.specs.Actions.{Action, constant, load, store, copy, look, 
 use Rattle.op_meaning.specs.Items.{Given, by_value, by_place, by_copy, Receiver, nowhere, to_temp, to_place, Item, act, also, choose, select, loop, body_first, protect, leave, enter, scoped, attempt, throw, rethrow, halt, construct, free, Items, none, then_do, Turns, turns, Cases, no_cases, cases}
 use Rattle.op_meaning.specs.Numbers.{fits_word}
 use Rattle.op_meaning.specs.Paths.{Root, in_global, in_local, through, in_temporary, Path, path_to}
-use Rattle.op_meaning.specs.Primitives.{IsApplied, Operand, from_temp, literal_text}
+use Rattle.op_meaning.specs.Primitives.{IsApplied, Operand, from_temp, literal_text, text_at}
 use Rattle.op_meaning.specs.Shapes.{single, composite, shape_of, is_reference, variables_of}
 use Rattle.op_mir.specs.Code.{Instr, do_act, do_call, jump, when, unless, switch, dispatch, make_due, open_temporaries, end_temporary, stop, ret}
 
@@ -84,10 +84,11 @@ IsShortText text = (length text < 2 ^ 31) × All (λ b. b < 256) text
 
 abbrev pub IsTypedOperand : Operand → Type 0
 IsTypedOperand (from_temp t) = Unit {0}
-IsTypedOperand (literal_text text) = IsShortText text
+IsTypedOperand (text_at path) = ⊥
+IsTypedOperand (literal_text bytes) = IsShortText bytes
 
 -- Single numbers are loaded and stored, values with parts are copied, and what stands in the action itself is a number of 32 bits, a
--- first value that its variable can have, or a short text; a primitive has operands of its sorts, and a destination for what it gives.
+-- first value that its variable can have, or a short text; a primitive has operands of its sorts, of which none is at a place.
 abbrev pub IsTypedAction : Core → ℕ → Action → Type 0
 IsTypedAction core r (constant to n) = FitsSigned w32 n
 IsTypedAction core r (load to kind from) = (of : TypeId) × PathTo core r from of × IsSingle core of kind

@@ -32,26 +32,52 @@ pub fn action(out: &mut Writer, core: &Core, of: &Action) -> Result<(), NoMemory
             primitive: of,
             operands,
             to,
-        } => primitive(out, *of, operands.as_slice(), *to),
+        } => primitive(out, core, *of, operands.as_slice(), to),
     }
 }
 
 fn primitive(
     out: &mut Writer,
+    core: &Core,
     of: Primitive,
     operands: &[Operand],
-    to: Destination,
+    to: &Destination,
 ) -> Result<(), NoMemory> {
     out.words(&[Word::Plain(primitive_name(of))])?;
     for operand in operands {
-        out.words(&[match operand {
-            Operand::Number(from) => temporary(*from),
-            Operand::Literal(text) => Word::Literal(text.as_slice()),
-        }])?;
+        match operand {
+            Operand::Number(from) => out.words(&[temporary(*from)])?,
+            Operand::Text(at) => path(out, core, at)?,
+            Operand::Literal(text) => out.words(&[Word::Literal(text.as_slice())])?,
+        }
     }
+    destination(out, core, to)
+}
+
+fn destination(out: &mut Writer, core: &Core, to: &Destination) -> Result<(), NoMemory> {
     match to {
         Destination::Unused => Ok(()),
-        Destination::InTemporary(to) => out.words(&[Word::Plain("to"), temporary(to)]),
+        Destination::InTemporary(to) => out.words(&[Word::Plain("to"), temporary(*to)]),
+        Destination::InNew { of, number } => {
+            out.words(&[
+                Word::Plain("to new"),
+                type_named(*of),
+                Word::Numbered("new-", *number),
+            ])
+        }
+        Destination::IntoPlace { of, to, old } => {
+            out.words(&[Word::Plain("into")])?;
+            path(out, core, to)?;
+            out.words(&[
+                Word::Plain("old"),
+                type_named(*of),
+                Word::Numbered("new-", *old),
+            ])
+        }
+        Destination::OverPlace { to } => {
+            out.words(&[Word::Plain("over")])?;
+            path(out, core, to)
+        }
     }
 }
 
@@ -61,6 +87,21 @@ fn primitive_name(of: Primitive) -> &'static str {
         Primitive::WriteTruth => "write truth",
         Primitive::WriteChar => "write char",
         Primitive::WriteText => "write text",
+        Primitive::Same => "same",
+        Primitive::Concatenate => "concatenate",
+        Primitive::CompareTexts => "compare texts",
+        Primitive::TextLength => "length of text",
+        Primitive::CharAt => "char at",
+        Primitive::PieceOfText => "piece of text",
+        Primitive::TextOfChar => "text of char",
+        Primitive::StrNumber => "str of number",
+        Primitive::StrTruth => "str of truth",
+        Primitive::StrChar => "str of char",
+        Primitive::StrText => "str of text",
+        Primitive::ValNumber => "val, number",
+        Primitive::ValCode => "val, code",
+        Primitive::PutChar => "put char",
+        Primitive::ResizeText => "resize text",
     }
 }
 

@@ -2,6 +2,7 @@
 use crate::action::action;
 use crate::call::{all_given, receiver};
 use crate::names::{routine, temporary};
+use crate::place::{all_held, held};
 use crate::writer::{Word, Writer};
 use op_base::NoMemory;
 use op_core::{Core, Label, RoutineId};
@@ -85,6 +86,14 @@ fn instruction(out: &mut Writer, core: &Core, of: &Instruction) -> Result<(), No
         } => out.words(&[Word::Plain("dispatch"), temporary(*by), block(*to)]),
         Instruction::MakeDue { finalization } => {
             out.words(&[Word::Plain("due"), routine(core, *finalization)])
+        }
+        Instruction::OpenTemporaries { temporaries } => {
+            out.words(&[Word::Plain("open")])?;
+            all_held(out, core, temporaries.as_slice())
+        }
+        Instruction::EndTemporary { temporary: one } => {
+            out.words(&[Word::Plain("end")])?;
+            held(out, core, *one)
         }
         Instruction::Stop { status } => out.words(&[Word::Plain("stop"), temporary(*status)]),
         Instruction::Return => out.words(&[Word::Plain("return")]),

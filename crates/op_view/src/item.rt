@@ -3,12 +3,12 @@ use crate::action::action;
 use crate::call::{all_given, receiver};
 use crate::code::labels;
 use crate::names::{class, routine, temporary, truth};
-use crate::place::{path, root};
+use crate::place::{all_held, held, path, root};
 use crate::writer::{Word, Writer};
 use op_base::NoMemory;
 use op_core::{ClassId, Core, RoutineId};
 use op_items::{Case, Clause, Item, Turns, Way, routine_items};
-use op_mir::{Action, Given, Path, Receiver, TemporaryId};
+use op_mir::{Action, Given, Path, Receiver, Temporary, TemporaryId};
 use std::alloc::Global;
 
 /// The items of each routine of a program that has a body, in the order of their rows.
@@ -90,6 +90,11 @@ fn item(out: &mut Writer, core: &Core, of: &Item) -> Result<(), NoMemory> {
             given,
             receiver: to,
         } => enter(out, core, *id, given.as_slice(), to),
+        Item::Scoped {
+            first,
+            others,
+            items,
+        } => scoped(out, core, *first, others.as_slice(), items),
         Item::Attempt { items, clauses } => {
             headed(out, core, &[Word::Plain("attempt")], items)?;
             all_clauses(out, core, clauses)
@@ -112,10 +117,7 @@ fn item(out: &mut Writer, core: &Core, of: &Item) -> Result<(), NoMemory> {
             given,
             receiver: to,
         } => construct(out, core, (*of, *id), given.as_slice(), to),
-        Item::Free { takes_nil, at } => {
-            let name = if *takes_nil { "free" } else { "destroy" };
-            placed(out, core, name, at)
-        }
+        Item::Free { takes_nil, at } => placed(out, core, free_name(*takes_nil), at),
     }
 }
 
@@ -142,8 +144,29 @@ fn also(
     headed(out, core, &words, list)
 }
 
+/// Items that may make temporaries, behind a line with these in the order in which they end.
+#[cycle(item)]
+fn scoped(
+    out: &mut Writer,
+    core: &Core,
+    first: Temporary,
+    others: &[Temporary],
+    list: &[Item],
+) -> Result<(), NoMemory> {
+    out.begin()?;
+    out.words(&[Word::Plain("scope of")])?;
+    held(out, core, first)?;
+    all_held(out, core, others)?;
+    out.end()?;
+    within(out, core, list)
+}
+
 fn protect_words(by: TemporaryId) -> [Word<'static>; 2] {
     [Word::Plain("protect"), temporary(by)]
+}
+
+fn free_name(takes_nil: bool) -> &'static str {
+    if takes_nil { "free" } else { "destroy" }
 }
 
 /// What is done with the instance at a place.

@@ -3,7 +3,7 @@ use crate::names::{temporary, type_named, variable};
 use crate::writer::{Word, Writer};
 use op_base::NoMemory;
 use op_core::Core;
-use op_mir::{Path, Root, Step};
+use op_mir::{Path, Root, Step, Temporary};
 
 pub fn path(out: &mut Writer, core: &Core, path: &Path) -> Result<(), NoMemory> {
     root(out, core, path.root)?;
@@ -27,6 +27,19 @@ pub fn root(out: &mut Writer, core: &Core, of: Root) -> Result<(), NoMemory> {
             out.words(&[type_named(of), Word::Numbered("w", number)])
         }
     }
+}
+
+/// A temporary that is no number.
+pub fn held(out: &mut Writer, core: &Core, one: Temporary) -> Result<(), NoMemory> {
+    let Temporary { of, number } = one;
+    root(out, core, Root::Temporary { of, number })
+}
+
+pub fn all_held(out: &mut Writer, core: &Core, all: &[Temporary]) -> Result<(), NoMemory> {
+    for each in all {
+        held(out, core, *each)?;
+    }
+    Ok(())
 }
 
 fn step(of: Step) -> [Word<'static>; 5] {

@@ -9,6 +9,6 @@ invariant-loop-r l =
     record {
       code : written l.code.items (routines_code l.layout l.addresses l.r l.spot (drop l.r l.routines)) ≡ written l.fn.code.items (routines_code l.layout l.addresses 0 first_spot l.routines);
       fields : IsTrue (list_all routine_has_fields (drop l.r l.routines));
-      longest : l.spot.longest + 12 * items_in_routines (drop l.r l.routines) ≤ 0x00010018 + 12 * items_in_routines l.routines;
-      address : l.spot.address + 12 * items_in_routines (drop l.r l.routines) ≤ 0x00010018 + 12 * items_in_routines l.routines;
+      longest : l.spot.longest + 12 * items_in_routines (drop l.r l.routines) ≤ 0x00010048 + 12 * items_in_routines l.routines;
+      address : l.spot.address + 12 * items_in_routines (drop l.r l.routines) ≤ 0x00010048 + 12 * items_in_routines l.routines;
     }

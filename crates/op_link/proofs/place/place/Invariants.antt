@@ -7,6 +7,6 @@ invariant-loop-r l =
     record {
       placed : l.places.items ++ routine_places l.known l.r l.spot (drop l.r l.routines) ≡ routine_places l.known 0 first_spot l.routines;
       rest : behind_routines l.known l.r l.spot (drop l.r l.routines) ≡ behind_routines l.known 0 first_spot l.routines;
-      longest : l.spot.longest + 12 * items_in_routines (drop l.r l.routines) ≤ 0x00010018 + 12 * items_in_routines l.routines;
-      address : l.spot.address + 12 * items_in_routines (drop l.r l.routines) ≤ 0x00010018 + 12 * items_in_routines l.routines;
+      longest : l.spot.longest + 12 * items_in_routines (drop l.r l.routines) ≤ 0x00010048 + 12 * items_in_routines l.routines;
+      address : l.spot.address + 12 * items_in_routines (drop l.r l.routines) ≤ 0x00010048 + 12 * items_in_routines l.routines;
     }

@@ -1,10 +1,13 @@
-use Rattle.std.proofs.Common.{◌≡◌, ◌-◌, suc, length, vec_len, ◌∷◌, [], reverse, refl, ap, arith}
+use Rattle.std.proofs.Common.{◌≡◌, ◌-◌, suc, length, map, vec_len, ◌∷◌, [], reverse, refl, ap, ◌∙◌, arith}
+use Rattle.op_mir.specs.Code.{ends, scope_exits}
+use Rattle.op_mir.specs.View.{view_temporary}
 use Rattle.op_mir.specs.declared.instruction.Instruction.TheVariants.{Jump}
-use Rattle.op_lower.proofs.MadeLemmas.{added, also_is, also_makes, arm_done, begun, body_first_is, body_grows, body_is, branch_adds, choose_is, choose_makes, finally_adds, grows, item_done, last_stands, leave_makes, loop_adds, loop_is, protect_is, reserved, reversed_push, select_is, select_makes}
-use Rattle.op_lower.proofs.Sizes.{also_size, body_first_size, choose_size, loop_size, popped_case_size, popped_size, protect_size, select_size, size, cases_size, turns_size, size_of_turns}
+use Rattle.op_lower.proofs.MadeLemmas.{added, also_is, also_makes, arm_done, begun, body_first_is, body_grows, body_is, branch_adds, choose_is, choose_makes, finally_adds, grows, item_done, last_stands, leave_makes, loop_adds, loop_is, protect_is, reserved, reversed_push, scoped_is, scoped_makes, select_is, select_makes}
+use Rattle.op_lower.proofs.Sizes.{also_size, body_first_size, choose_size, loop_size, popped_case_size, popped_size, protect_size, scoped_size, select_size, size, cases_size, turns_size, size_of_turns}
 use Rattle.op_lower.specs.Exits.{exits_of}
 use Rattle.op_lower.specs.Made.{items_made, arms_made}
-use Rattle.op_lower.specs.declared.exits.Exits.TheViews.{Loop}
+use Rattle.op_lower.specs.Seen.{seen}
+use Rattle.op_lower.specs.declared.exits.Exits.TheViews.{Loop, Scope}
 use Rattle.op_lower.proofs.items.+items.Goals as goal
 
 -- ---- items
@@ -81,6 +84,11 @@ loop_blocks-fill-requires t c =
 pub loop_blocks-returns-clause-blocks : goal.loop_blocks-returns-clause-blocks
 loop_blocks-returns-clause-blocks t c = loop_adds c.args.exits.now (Loop c.args.exits c.in_ok-made.made.behind) c.args.turns.now c.args.now.now c.in_ok-made.made.behind c.in_ok-made.made.head c.in_ok-made.made.body c.in_ok-on.on c.args.blocks.now c.begin_loop.new.self c.body_block.new.blocks c.code_to.new.blocks c.code.new.blocks c.fill.new.self c.code_to.new.now c.branch_if.new.now c.code.new.now c.in_ok-branch_if.ensures refl c.in_ok-made.ensures.behind c.in_ok-made.ensures.head c.in_ok-made.ensures.body c.in_ok-made.ensures.blocks c.in_ok-on.ensures c.in_ok-code_to.ensures c.in_ok-code.ensures c.fill.ensures
 
+-- ---- temporaries that end
+
+pub scoped-returns : goal.scoped-returns
+scoped-returns t c = scoped_makes c.args.exits.now (Scope c.args.exits c.as_slice-all.result) c.args.first c.args.others.now c.in_ok-temporaries.temporaries c.args.items.now.items c.args.now.now c.end.new.self c.code.new.now c.put.new.self c.args.blocks.now c.code.new.blocks c.in_ok-temporaries.ensures (ap (λ ts. scope_exits (exits_of c.args.exits.now) (map view_temporary ts)) c.as_slice-all.ensures) (λ core r. c.in_ok-end.ensures core r ∙ ap (λ ts. ends (map view_temporary ts) (seen core r c.args.now.now)) c.as_slice-all.ensures) c.in_ok-code.ensures c.in_ok-put.ensures
+
 -- ---- finally parts
 
 pub finally_block-fill-requires : goal.finally_block-fill-requires
@@ -129,6 +137,12 @@ code_item-protect-requires t c = (omega (arith, protect_size c.args.item.now c.i
 
 pub code_item-returns-in-Protect : goal.code_item-returns-in-Protect
 code_item-returns-in-Protect t c = protect_is c.args.exits.now c.args.item.now c.in-Protect.temporary _ c.in-Protect.items _ c.in-Protect.finalization _ c.args.blocks.now c.protect.new.blocks c.args.now.now c.protect.new.now c.protect.result c.in-Protect.is c.in-Protect.temporary-is c.in-Protect.items-is c.in-Protect.finalization-is c.protect.ensures
+
+pub code_item-scoped-requires : goal.code_item-scoped-requires
+code_item-scoped-requires t c = (omega (arith, scoped_size c.args.item.now c.in-Scoped.first c.in-Scoped.others c.in-Scoped.items c.in-Scoped.is, ap (λ x. size x.items) c.in-Scoped.items-is), tt)
+
+pub code_item-returns-in-Scoped : goal.code_item-returns-in-Scoped
+code_item-returns-in-Scoped t c = scoped_is c.args.exits.now c.args.item.now c.in-Scoped.first _ c.in-Scoped.others _ c.in-Scoped.items _ c.args.blocks.now c.scoped.new.blocks c.args.now.now c.scoped.new.now c.scoped.result c.in-Scoped.is c.in-Scoped.first-is c.in-Scoped.others-is c.in-Scoped.items-is c.scoped.ensures
 
 pub code_item-returns-in-Leave : goal.code_item-returns-in-Leave
 code_item-returns-in-Leave t c = leave_makes c.args.exits.now c.args.item.now c.in-Leave.way _ c.args.blocks.now c.args.now.now c.leave.new.now c.leave.result c.in-Leave.is c.in-Leave.way-is c.leave.ensures

@@ -62,5 +62,8 @@ decreases-choose l = 8 * (size l.first.now.items + size l.otherwise.now.items) +
 abbrev pub decreases-select : goal.decreases-select
 decreases-select l = 8 * (cases_size l.cases.now.items + size l.otherwise.now.items) + 5
 
+abbrev pub decreases-scoped : goal.decreases-scoped
+decreases-scoped l = 8 * size l.items.now.items + 5
+
 abbrev pub decreases-protect : goal.decreases-protect
 decreases-protect l = 8 * (size l.items.now.items + size l.finalization.now.items) + 5

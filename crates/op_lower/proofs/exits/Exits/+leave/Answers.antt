@@ -1,5 +1,6 @@
-use Rattle.std.proofs.Common.{◌≡◌, sym, ap, ◌∙◌}
-use Rattle.op_mir.specs.Code.{loop_exits}
+use Rattle.std.proofs.Common.{◌≡◌, ◌∷◌, [], map, sym, ap, ◌∙◌}
+use Rattle.op_mir.specs.Code.{ends, loop_exits, open_temporaries}
+use Rattle.op_mir.specs.View.{view_temporary}
 use Rattle.op_lower.specs.Exits.{exits_of, reason_of}
 use Rattle.op_lower.proofs.exits.Exits.+leave.Goals as goal
 
@@ -14,3 +15,9 @@ returns-in-Exit t c =
 
 pub returns-in-Finally : goal.returns-in-Finally
 returns-in-Finally t c = rw (ap (λ x. exits_of x (reason_of c.args.way)) c.in-Finally.is) c.leave_part.ensures
+
+pub returns-in_ok-end_scope-in-Scope : goal.returns-in_ok-end_scope-in-Scope
+returns-in_ok-end_scope-in-Scope t c = λ core r.
+    c.in_ok-end_scope-in-Scope.ensures core r
+    ∙ ap (λ x. open_temporaries [] ∷ ends (map view_temporary c.in-Scope.temporaries.now) x) (c.in_ok-code-in-Scope.ensures core r)
+    ∙ sym (ap (λ x. exits_of x (reason_of c.args.way)) c.in-Scope.is)
