@@ -1,0 +1,14 @@
+{ Free of an instance while its destructor runs }
+type TA = class n: Integer; destructor Destroy; override; end;
+destructor TA.Destroy;
+begin
+  n := n + 1;
+  WriteLn('in ', n);
+  if n < 3 then Self.Free;
+  WriteLn('never')
+end;
+var a: TA;
+begin
+  a := TA.Create;
+  a.Free
+end.
