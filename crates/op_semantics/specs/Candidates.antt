@@ -18,7 +18,7 @@ made_for (to_temp t) = []
 made_for (to_place of to) = []
 made_for (to_new of n) = record { of = of; n = n } ∷ []
 
-abbrev held_by : Option Temporary → List Temporary
+abbrev pub held_by : Option Temporary → List Temporary
 held_by None = []
 held_by (Some t) = t ∷ []
 

@@ -133,7 +133,7 @@ abbrev pub own : Env → TypeId → Here → Found → Found
 own env of here f = own_by env.core of here f f.now
 
 -- nil that is looked at as a place goes to a temporary
-abbrev somewhere_by : Core → TypeId → Here → Found → Now → Found
+abbrev pub somewhere_by : Core → TypeId → Here → Found → Now → Found
 somewhere_by core of here f (a_nil n) = then_value core of here Same (nil_of n ∷ []) f
 somewhere_by core of here f now = f
 
@@ -250,7 +250,7 @@ abbrev pub on_texts : Core → Operator → TypeId → Here → List Operand →
 on_texts core Add to here operands f = then_value core to here Concatenate operands f
 on_texts core o to here operands f = then_acts (then_number here CompareTexts operands f) (constant (here.temp + 1) (pos 0) ∷ compare o here.temp here.temp (here.temp + 1) ∷ [])
 
-abbrev differs : Operator → ℕ → List Action
+abbrev pub differs : Operator → ℕ → List Action
 differs NotEqual t = invert t t ∷ []
 differs o t = []
 
@@ -271,7 +271,7 @@ two_by core None o checked of shape to here f right second =
     on_references o here (operand_of of here f.now ∷ operand_of right (past_whole here) second.now ∷ []) (found (f.items & second.items) ready second.held)
 
 -- nil, also behind brackets and conversions; what is compared with it is looked at where it is
-abbrev stays_nil : Steps → Bool
+abbrev pub stays_nil : Steps → Bool
 stays_nil no_steps = true
 stays_nil (steps (convert c origin) of others) = stays_nil others
 stays_nil (steps bracket of others) = stays_nil others
@@ -350,14 +350,14 @@ measured core Length of (a_text bytes) = Some (pos (length bytes))
 measured core f of (a_text bytes) = measured_by f (Some (pos 1, pos (length bytes)))
 measured core f of now = measured_by f (range_of (type_at core (counted_of core of)))
 
-abbrev is_measure : Function → Bool
+abbrev pub is_measure : Function → Bool
 is_measure Length = true
 is_measure Low = true
 is_measure High = true
 is_measure f = false
 
 -- the last index is one less than the length, where indices begin at 0
-abbrev last_index : Function → ℕ → List Action
+abbrev pub last_index : Function → ℕ → List Action
 last_index High t = constant (t + 1) (pos 1) ∷ arithmetic Subtract false t t (t + 1) ∷ []
 last_index Low t = constant t (pos 0) ∷ []
 last_index f t = []
@@ -375,7 +375,7 @@ piece_row (Some (OpenArray element)) = PieceOfArray
 piece_row (Some (Array at element)) = PieceOfArray
 piece_row _ = PieceOfText
 
-abbrev element_operand : Option CoreType → List Operand → List Operand
+abbrev pub element_operand : Option CoreType → List Operand → List Operand
 element_operand (Some (DynamicArray element)) operands = a_type element ∷ operands
 element_operand (Some (OpenArray element)) operands = a_type element ∷ operands
 element_operand (Some (Array at element)) operands = a_type element ∷ operands
@@ -401,10 +401,10 @@ applied_by None env function checked of to here f =
 -- ---- the input ("Eof" and "Eoln")
 
 -- whether the input is at its end, and whether it is there or in front of a line feed
-abbrev at_input_end : ℕ → List Action
+abbrev pub at_input_end : ℕ → List Action
 at_input_end t = peek t ∷ constant (t + 1) (negsuc 0) ∷ compare Equal t t (t + 1) ∷ []
 
-abbrev at_line_end : ℕ → Items
+abbrev pub at_line_end : ℕ → Items
 at_line_end t =
     acts (peek (t + 1) ∷ constant t (negsuc 0) ∷ compare Equal t t (t + 1) ∷ [])
     & only (also false t (acts (constant t (pos 10) ∷ compare Equal t t (t + 1) ∷ [])))
@@ -476,15 +476,15 @@ place_passed p f =
     let holder = array_on None p.steps in record { items = f.items; given = by_place p (hold_by holder f.held); used = f.used; held = past_hold holder f.held }
 
 -- a temporary holds its array already
-abbrev held_at : TypeId → Root → List Step → Option TypeId
+abbrev pub held_at : TypeId → Root → List Step → Option TypeId
 held_at of (in_temporary to n) [] = None
 held_at of root on = Some of
 
-abbrev elements_passed : Option TypeId → Path → Found → OnePassed
+abbrev pub elements_passed : Option TypeId → Path → Found → OnePassed
 elements_passed holder p f = record { items = f.items; given = by_elements p (hold_by holder f.held); used = f.used; held = past_hold holder f.held }
 
 -- what is handed on is held already: a list and the elements that a parameter stands for as they are, and the array of a parameter by value
-abbrev open_passed : Path → Root → Found → OnePassed
+abbrev pub open_passed : Path → Root → Found → OnePassed
 open_passed p (through v) f = record { items = f.items; given = by_place p None; used = f.used; held = f.held }
 open_passed p (in_temporary to n) f = record { items = f.items; given = by_place p None; used = f.used; held = f.held }
 open_passed p root f = elements_passed None p f

@@ -148,7 +148,7 @@ abbrev pub variables_of : Core → ℕ → Run
 variables_of core r = variables_in (slice_get core.routines r)
 
 -- an open array is given by reference, but for one that is given by value ("Open array parameters")
-abbrev refers_by : Bool → Role → Bool
+abbrev pub refers_by : Bool → Role → Bool
 refers_by true (Parameter Const_) = true
 refers_by other role = is_reference role
 
@@ -170,11 +170,11 @@ type_of_local core r v = type_of_variable core ((variables_of core r).first + v)
 abbrev pub is_local : Core → ℕ → VariableId → Bool
 is_local core r v = nat_le (variables_of core r).first v.0 && nat_lt v.0 ((variables_of core r).first + (variables_of core r).count)
 
-abbrev objects_in : Owner → ℕ
+abbrev pub objects_in : Owner → ℕ
 objects_in OfUnit = 0
 objects_in _ = 1
 
-abbrev result_in : Option Routine → ℕ
+abbrev pub result_in : Option Routine → ℕ
 result_in None = 0
 result_in (Some r) = objects_in r.owner + r.parameters.count
 
@@ -184,7 +184,7 @@ result_of_routine core r = result_in (slice_get core.routines r)
 
 -- ---- the fields of an instance: those of its ancestors first, in order of declaration ("Classes")
 
-abbrev fields_by : (ClassId → List Field) → Core → Option ClassRow → List Field
+abbrev pub fields_by : (ClassId → List Field) → Core → Option ClassRow → List Field
 fields_by inner core None = []
 fields_by inner core (Some x) = above x.ancestor ++ rows core.fields x.fields
   where
@@ -192,7 +192,7 @@ fields_by inner core (Some x) = above x.ancestor ++ rows core.fields x.fields
     above None = []
     above (Some a) = inner a
 
-abbrev fields_within : ℕ → Core → ClassId → List Field
+abbrev pub fields_within : ℕ → Core → ClassId → List Field
 fields_within zero core c = []
 fields_within (suc n) core c = fields_by (fields_within n core) core (slice_get core.classes c.0)
 
@@ -203,7 +203,7 @@ fields_of_class core c = fields_within (suc (length core.classes)) core c
 abbrev pub zero_instance : Core → ClassId → Value
 zero_instance core c = parts (length (fields_of_class core c)) (λ k. zero_of core (field_type (slice_get (fields_of_class core c) k)))
 
-abbrev declared_at : (ClassId → ℕ) → Core → FieldId → ClassId → Option ClassRow → ℕ
+abbrev pub declared_at : (ClassId → ℕ) → Core → FieldId → ClassId → Option ClassRow → ℕ
 declared_at inner core f c None = 0
 declared_at inner core f c (Some x) =
     if nat_le x.fields.first f.0 && nat_lt f.0 (x.fields.first + x.fields.count)
@@ -214,7 +214,7 @@ declared_at inner core f c (Some x) =
     above None = 0
     above (Some a) = inner a
 
-abbrev declared_within : ℕ → Core → FieldId → ClassId → ℕ
+abbrev pub declared_within : ℕ → Core → FieldId → ClassId → ℕ
 declared_within zero core f c = 0
 declared_within (suc n) core f c = declared_at (declared_within n core f) core f c (slice_get core.classes c.0)
 

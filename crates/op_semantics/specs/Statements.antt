@@ -48,7 +48,7 @@ put_by core composite to of here now p held =
 put_by core shape to of here now p held = put_into core to Same (operand_of of here now ∷ []) p held
 
 -- a Char goes into a text, which is changed where it is or becomes another one
-abbrev char_put : Here → Operand → ℕ → Items
+abbrev pub char_put : Here → Operand → ℕ → Items
 char_put here (value_of p) t = only (act (primitive PutChar (value_of p ∷ from_temp t ∷ from_temp here.temp ∷ []) (over_place p)))
 char_put here text t = none
 
@@ -66,15 +66,15 @@ pub record Setter : Type 0 where
   pub routine : ℕ
   pub dispatch : Dispatch
 
-abbrev with_root : Start → TypeId → Steps → Option (Steps × ℕ × Dispatch) → Option Setter
+abbrev pub with_root : Start → TypeId → Steps → Option (Steps × ℕ × Dispatch) → Option Setter
 with_root root of others None = None
 with_root root of others (Some (front, r, dispatch)) = Some (record { object = expression root of front; routine = r; dispatch = dispatch })
 
-abbrev behind_step : Doing → TypeId → Option (Steps × ℕ × Dispatch) → Option (Steps × ℕ × Dispatch)
+abbrev pub behind_step : Doing → TypeId → Option (Steps × ℕ × Dispatch) → Option (Steps × ℕ × Dispatch)
 behind_step action of None = None
 behind_step action of (Some (front, r, dispatch)) = Some (steps action of front, r, dispatch)
 
-abbrev last_method : Steps → Option (Steps × ℕ × Dispatch)
+abbrev pub last_method : Steps → Option (Steps × ℕ × Dispatch)
 last_method no_steps = None
 last_method (steps (method id dispatch no_arguments) of no_steps) = Some (no_steps, id.0, dispatch)
 last_method (steps action of others) = behind_step action of (last_method others)
@@ -97,7 +97,7 @@ placed env here target e =
     let v = make env here e in
     finished (stored_by env.core (type_of target) (type_of e) here v (find env (holding v.held (past 1 (past_whole here))) target))
 
-abbrev assigned_by : Env → Here → Option Setter → Expression → Expression → Items
+abbrev pub assigned_by : Env → Here → Option Setter → Expression → Expression → Items
 assigned_by env here None target e = placed env here target e
 assigned_by env here (Some setter) target e = set_by env here setter e
 
@@ -416,7 +416,7 @@ in_array env here of element p v into body =
     acts (constant here.temp (low_in env.core (counted_of env.core of)) ∷ constant (here.temp + 1) (high_in env.core (counted_of env.core of)) ∷ [])
     & in_elements env here (at_path (with_step (element_step env.core of here.temp) p)) element v into body
 
-abbrev if_any : Here → Items → Items
+abbrev pub if_any : Here → Items → Items
 if_any here body = then_do (act (compare LessEqual (here.temp + 2) here.temp (here.temp + 1))) (only (choose (here.temp + 2) body none))
 
 -- from 1 to the length of a text
@@ -511,7 +511,7 @@ abbrev mutual
 
 -- ---- the variables of a routine that begin with a value ("Initialized variables")
 
-abbrev first_item : Core → ℕ → ℕ → Option FirstValue → Items
+abbrev pub first_item : Core → ℕ → ℕ → Option FirstValue → Items
 first_item core r v None = none
 first_item core r v (Some value) = only (act (begin_with v (type_of_local core r v) value))
 

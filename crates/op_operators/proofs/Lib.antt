@@ -1,0 +1,4 @@
+pub mod Bits
+pub mod Following
+pub mod ItemsBehind
+pub mod Nils

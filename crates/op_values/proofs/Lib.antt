@@ -1,0 +1,3 @@
+pub mod ItemsBehind
+pub mod Nodes
+pub mod Steps

@@ -1,0 +1,6 @@
+use Rattle.op_values.proofs.ItemsBehind.{adds_as}
+use Rattle.op_values.proofs.Nodes.{item_nodes}
+use Rattle.op_values.proofs.setting.Setting.body_first.Goals as goal
+
+pub returns : goal.returns
+returns c = adds_as c.args.self c.args.items.now.items c.item.new.items.items c.item.result ((item_nodes _ _).body_first_says c.args.turns) c.item.ensures

@@ -1,0 +1,5 @@
+pub mod Adding
+pub mod Nodes
+pub mod Setting
+pub mod Shape
+pub mod View
