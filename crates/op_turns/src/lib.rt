@@ -12,6 +12,6 @@ mod first;
 mod set;
 mod text;
 
-pub use collection::in_collection;
+pub use collection::{in_turn, over_collection};
 pub use counting::count_turns;
 pub use first::{first_value, first_values};

@@ -1,0 +1,10 @@
+use Rattle.op_core.specs.Expression.{expr_of}
+use Rattle.op_simple.proofs.Moving.{finished_adds}
+use Rattle.op_simple.specs.Parts.{result_stored}
+use Rattle.op_values.specs.Adding.{env_view}
+use Rattle.op_values.specs.Setting.{here_view}
+use Rattle.op_simple.proofs.leaving.give_back.Goals as goal
+
+pub returns : goal.returns
+returns c =
+    finished_adds c.args.setting c.args.items.now.items c.finish.new.items.items c.new-inner.result.items c.store_result.new.items.items c.finish.result (result_stored (env_view c.args.setting) (here_view c.args.here) (expr_of c.args.value.now)) c.new-inner.ensures.items c.in_ok-store_result.ensures c.finish.ensures
